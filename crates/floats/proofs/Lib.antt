@@ -1,0 +1,6 @@
+pub mod Cross
+pub mod Preorder
+pub mod Sign
+pub mod Back
+pub mod Ops
+pub mod Ratio
