@@ -4,3 +4,5 @@ pub mod Sign
 pub mod Back
 pub mod Ops
 pub mod Ratio
+pub mod Tests
+pub mod Ceiling
