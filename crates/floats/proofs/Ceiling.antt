@@ -1,17 +1,17 @@
 -- `ceil` by the whole part: where the code's tests lead, and what the ceiling means. Assumes nothing.
 use mathlib.Core.Path.{_≡_, refl, sym, ap, _∙_, subst}
-use Prim.Native.Nat.{ℕ, zero, suc, _+_, _-_, _*_, _/_, _%_, _^_, _≤_, _<_, min}
-use native.Mathlib.Nat.{le-of-eq, lt-of-lt-of-le, zero-mul, zero-div, mul-one, one-mul, mul-right-comm, mul-lt-mul-of-pos-right, lt-of-mul-lt-mul-right, div-one, mod-one, mod-lt, div-le-self, div-add-mod', div-le-of-le-mul, div-lt-iff-lt-mul, le-div-iff-mul-le, mul-comm}
+use Prim.Native.Nat.{ℕ, zero, suc, _+_, _*_, _/_, _%_, _^_, _≤_, _<_, min}
+use native.Mathlib.Nat.{le-of-eq, lt-of-lt-of-le, zero-mul, zero-div, mul-one, one-mul, mul-right-comm, mul-lt-mul-of-pos-right, lt-of-mul-lt-mul-right, div-one, mod-lt, div-add-mod', div-le-of-le-mul, div-lt-iff-lt-mul, le-div-iff-mul-le, mul-comm}
 use native.Mathlib.Omega.{arith}
 use mathlib.Core.Bool.{Bool, true, false, not, _&&_, cond}
 use lib.IntN.{ℤ, pos, negsuc}
-use lib.Dec.{T, eqb, ltb, leb, eqb→eq, ltb→lt, lt→ltb, nltb→le, le→leb, leb→le, T-not}
+use lib.Dec.{T, eqb, ltb, leb, eqb→eq, ltb→lt, lt→ltb, nltb→le}
 use lib.Pow.{pow-pos}
 use lib.Ieee.{Float, nan, inf, fin, binary32, up, down, lt, le, fits, ofInt, round, toUnsigned}
 use lib.Ieee.Exact.{HasValue}
 use lib.Ieee.Scale.{finite}
 use lib.Ieee.Back.{round-whole}
-use lib.Ieee.Fits.{up-pos, down-pos, eq→eqb, and-l, and-r}
+use lib.Ieee.Fits.{down-pos, eq→eqb, and-l, and-r}
 use Rattle.floats.specs.Floats.{zero32, ceilOf}
 use Rattle.floats.proofs.Cross.{of-taken, of-left, is-true, is-false, iff→eq, le→cross, cross→le}
 use Rattle.floats.proofs.Preorder.{nan-le}

@@ -3,12 +3,11 @@ use mathlib.Core.Path.{_≡_, refl, sym, ap, _∙_, subst}
 use Prim.Native.Nat.{ℕ, zero, suc, _+_, _*_, _^_, _<_}
 use native.Mathlib.Nat.{mul-pos, pow-succ'}
 use native.Mathlib.Omega.{arith}
-use mathlib.Core.Bool.{Bool, true, false, not, _&&_, cond}
+use mathlib.Core.Bool.{true, false, not, _&&_}
 use lib.IntN.{ℤ, pos, negsuc}
 use lib.Dec.{T, eqb, ltb, eqb→eq, ltb→lt, T-not}
-use lib.Pow.{pow-pos}
-use lib.Ieee.{Float, nan, inf, fin, binary32, up, down, lt, eq, ne, neg, fits, isNan, ofBits}
-use lib.Ieee.Fits.{up-pos, down-pos, eq→eqb, and-l}
+use lib.Ieee.{Float, nan, inf, fin, binary32, up, down, lt, eq, ne, neg, fits, isNan}
+use lib.Ieee.Fits.{up-pos, and-l}
 use lib.Ieee.Compare.{differs-from-itself}
 use lib.Ieee.Scale.{finite}
 use Rattle.floats.specs.Floats.{zero32, absOf}

@@ -1,6 +1,6 @@
 -- `ceil` meets its contract: each way out is a law of Ceiling. Assumes nothing.
-use mathlib.Core.Path.{_≡_, sym, ap, _∙_, subst}
-use Prim.Native.Nat.{ℕ, _<_}
+use mathlib.Core.Path.{sym, ap, _∙_, subst}
+use Prim.Native.Nat.{_<_}
 use native.Mathlib.Omega.{arith}
 use borrow.Author.Needs.{needs}
 use lib.Dec.{T}
@@ -10,7 +10,7 @@ use lib.Ieee.{Float, fin, ofBits, lt}
 use Rattle.floats.specs.Floats.{zero32}
 use Rattle.floats.proofs.Cross.{of-taken}
 use Rattle.floats.proofs.Preorder.{lt-trans-f}
-use Rattle.floats.proofs.Ceiling.{top, gapless, ceil-none, ceil-top, ceil-small, ceil-flat, ceil-more, ceil-large}
+use Rattle.floats.proofs.Ceiling.{top, ceil-none, ceil-top, ceil-small, ceil-flat, ceil-more, ceil-large}
 use Rattle.floats.proofs.ceil.Statement.{statement}
 use Rattle.floats.proofs.ceil.Tie as tie
 
