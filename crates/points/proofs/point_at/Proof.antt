@@ -1,3 +1,4 @@
+-- `points::point_at` meets its contract. Assumes nothing.
 use mathlib.Core.Path.{refl}
 use Rattle.points.specs.Points.{pointAt}
 use borrow.Author.Needs.{needs}
