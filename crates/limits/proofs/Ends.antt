@@ -6,7 +6,7 @@ use lib.Ieee.{Float, nan, inf, fin, binary32, round, ofBits, neg, le, lt, eq}
 use lib.Ieee.Scale.{finite}
 use Rattle.floats.proofs.Cross.{of-taken}
 use Rattle.floats.proofs.Preorder.{le-nan}
-use Rattle.limits.specs.Allowed.{nearest, between, within, cartesianOk, angleOk, radiusOk, angleStepOk, radiusStepOk, rateOk, turnOk}
+use Rattle.limits.specs.Allowed.{nearest, between, within, cartesianOk, angleOk, radiusOk, angleStepOk, radiusStepOk, rateOk}
 use Rattle.limits.proofs.Lines.{and-left, and-right}
 
 pub tenth : nearest 1 10 ≡ ofBits binary32 0x3dcccccd
@@ -58,7 +58,3 @@ radius-step-finite x e = between-finite (nearest 1 1000) (nearest 1 1) x tt tt e
 pub rate-finite : (x : Float) → rateOk x ≡ true → T (finite x)
 unfolding rateOk round
 rate-finite x e = between-finite (nearest 1000 1) (nearest 384000 1) x tt tt e
-
-pub turn-finite : (x : Float) → turnOk x ≡ true → T (finite x)
-unfolding turnOk within round neg
-turn-finite x e = between-finite (neg (nearest 16 1)) (nearest 16 1) x tt tt e

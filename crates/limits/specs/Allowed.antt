@@ -90,7 +90,3 @@ radiusStepOk x = between (nearest 1 1000) (nearest 1 1) x
 
 unfoldable pub rateOk : Float → Bool
 rateOk x = between (nearest 1000 1) (nearest 384000 1) x
-
--- the argument of a single sine or cosine
-unfoldable pub turnOk : Float → Bool
-turnOk x = within 16 1 x

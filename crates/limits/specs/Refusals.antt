@@ -12,7 +12,7 @@ use Rattle.limits.specs.declared.TreeLengths.{TreeLengths}
 use Rattle.limits.specs.declared.Lengths.{Lengths}
 use Rattle.limits.specs.declared.Verdict.{Verdict}
 use Rattle.limits.specs.declared.Verdict.the-variants.{Fine, Refused}
-use Rattle.limits.specs.Allowed.{sizesOk, treeFits, loadFits, kindOk, positionOk, firstBad, angleStepOk, radiusStepOk, rateOk, turnOk}
+use Rattle.limits.specs.Allowed.{sizesOk, treeFits, loadFits, kindOk, positionOk, firstBad, angleStepOk, radiusStepOk, rateOk}
 
 -- a line of the table: its number, whether it is met, and the place then given
 pub record Check : Type 0 where
@@ -67,13 +67,9 @@ badRadiusStep x = record { number = 5; met = not (radiusStepOk x); place = 1 }
 abbrev pub badRate : Float → Check
 badRate x = record { number = 6; met = not (rateOk x); place = 0 }
 
--- a query coordinate or a single angle call's argument not finite | axis, or the argument from 0
+-- a query coordinate not finite | axis
 abbrev pub notFinite : ℕ → Float → Check
 notFinite axis x = record { number = 7; met = not (finite x); place = axis }
-
--- sine or cosine not finite or beyond ±16 | the argument from 0
-abbrev pub badTurn : Float → Check
-badTurn x = record { number = 7; met = not (turnOk x); place = 0 }
 
 -- a measurement number at or above M | the number
 abbrev pub badNumber : Sizes → ℕ → Check
@@ -121,10 +117,3 @@ triplets xs = length xs - length xs % 3
 -- a conversion from the kind: 4, over whole triplets
 abbrev pub valueLines : ℕ → List Float → List Check
 valueLines kind xs = badValue kind xs (triplets xs) ∷ []
-
--- a single sine or cosine, a single arctangent: 7
-abbrev pub turnLines : Float → List Check
-turnLines x = badTurn x ∷ []
-
-abbrev pub arctangentLines : Float → Float → List Check
-arctangentLines y x = notFinite 0 y ∷ notFinite 1 x ∷ []

@@ -3,15 +3,20 @@
 // specs/Allowed.antt is document 01's "Numbers allowed". specs/Refusals.antt is its table of
 // refusals, a definition to each line, and for each call the list of its lines: `verdictOf` gives
 // the first line that is met. Each judge here equals that for every input, so no call can say no
-// in another order. What a verdict of Fine gives its caller stands in proofs/Passed.antt.
+// in another order. Two lines stand elsewhere: 7 for single angle calls in the crate `angles`, and
+// 9, which a search meets on its way.
+//
+// proofs/Passed.antt has what a verdict of Fine gives a caller, proofs/Lines.antt that the verdict
+// is the first line met, proofs/Values.antt that a refused value is the first bad one, and
+// proofs/Ends.antt that allowed values are finite and what f32 the step ranges end at.
 use points::Point3;
 ghost use mathlib.Core.Path.{_≡_};
 ghost use mathlib.Core.Bool.{true, _&&_};
 ghost use mathlib.Core.List.{[], _∷_};
 ghost use Prim.Native.Nat.{_≤_};
 ghost use lib.ListN.{length};
-ghost use Rattle.limits.specs.Allowed.{between, sizesOk, treeFits, responsesFit, neighboursFit, plainFits, blendFits, loadFits, kindOk, positionOk, firstBad, angleStepOk, radiusStepOk, rateOk, turnOk};
-ghost use Rattle.limits.specs.Refusals.{verdictOf, reasonOf, placeOf, badRate, badNumber, queryLines, contentLines, loadLines, findLines, filterLines, numberLines, ratedLines, rateLines, valueLines, turnLines, arctangentLines};
+ghost use Rattle.limits.specs.Allowed.{between, sizesOk, treeFits, responsesFit, neighboursFit, plainFits, blendFits, loadFits, kindOk, positionOk, firstBad, angleStepOk, radiusStepOk, rateOk};
+ghost use Rattle.limits.specs.Refusals.{verdictOf, reasonOf, placeOf, badRate, badNumber, queryLines, contentLines, loadLines, findLines, filterLines, numberLines, ratedLines, rateLines, valueLines};
 
 // M measurements, C coordinates, R receivers, N taps.
 pub struct Sizes {
@@ -167,13 +172,6 @@ pub fn rate_ok(x: f32) -> bool
     ensures { λ r. ⌜ r ≡ rateOk x ⌝ }
 {
     (1000.0 <= x) & (x <= 384000.0)
-}
-
-// Whether a single sine or cosine takes the argument.
-pub fn turn_ok(x: f32) -> bool
-    ensures { λ r. ⌜ r ≡ turnOk x ⌝ }
-{
-    (-16.0 <= x) & (x <= 16.0)
 }
 
 fn judge_query(q: Point3) -> Verdict
@@ -353,29 +351,6 @@ pub fn judge_values(kind: u32, values: &[f32]) -> Verdict
     let bad = first_bad(kind, values, whole);
     if bad < whole {
         return Verdict::Refused(4, bad);
-    }
-    Verdict::Fine
-}
-
-// For a single sine or cosine.
-pub fn judge_turn(x: f32) -> Verdict
-    ensures { λ r. ⌜ r ≡ verdictOf (turnLines x) ⌝ }
-{
-    if !turn_ok(x) {
-        return Verdict::Refused(7, 0);
-    }
-    Verdict::Fine
-}
-
-// For a single arctangent.
-pub fn judge_arctangent(y: f32, x: f32) -> Verdict
-    ensures { λ r. ⌜ r ≡ verdictOf (arctangentLines y x) ⌝ }
-{
-    if !floats::is_finite(y) {
-        return Verdict::Refused(7, 0);
-    }
-    if !floats::is_finite(x) {
-        return Verdict::Refused(7, 1);
     }
     Verdict::Fine
 }
