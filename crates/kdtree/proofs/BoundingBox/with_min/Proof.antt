@@ -1,0 +1,19 @@
+use mathlib.Core.Path.{sym}
+use Rattle.kdtree.specs.Geometry.{byAxis, byAxis-else, withMin}
+use Rattle.kdtree.proofs.BoundingBox.with_min.Statement.{statement}
+use Rattle.kdtree.proofs.BoundingBox.with_min.Tie as tie
+
+returns : tie.Need-returns
+unfolding withMin byAxis
+returns c = rw (c .match .keys1)
+
+returns-2 : tie.Need-returns-2
+unfolding withMin byAxis
+returns-2 c = rw (c .match .keys2)
+
+returns-3 : tie.Need-returns-3
+unfolding withMin byAxis
+returns-3 c = sym (byAxis-else _ _ _ _ (c .match .rest .0 .1) (c .match .rest .1))
+
+pub with-min-spec : {M : Type 1} → statement M
+with-min-spec = tie.close (tie.spec returns returns-2 returns-3)

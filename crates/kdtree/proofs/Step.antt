@@ -1,0 +1,271 @@
+-- One step of the search and of the way down to a slot, in the terms of the code: each value that the code has, with the equation that it
+-- has for it, and what the definition then says. Assumes nothing.
+use mathlib.Core.Path.{_≡_, refl, sym, ap, _∙_}
+use mathlib.Core.Bool.{Bool, true, false, cond}
+use mathlib.Core.List.{List}
+use Prim.Native.Nat.{ℕ, zero, suc, _-_, _<_, _≤_}
+use native.Mathlib.Omega.{arith}
+use lib.ListN.{getD}
+use lib.Dec.{ltb, eqb}
+use lib.Ieee.{Float, lt}
+use borrow.Author.Tests.{le-ltb, lt-ltb, ltb-true}
+use Rattle.points.specs.declared.Point3.{Point3}
+use Rattle.kdtree.specs.declared.BoundingBox.{BoundingBox}
+use Rattle.kdtree.specs.declared.Best.{Best}
+use Rattle.kdtree.specs.declared.Searched.{Searched}
+use Rattle.kdtree.specs.declared.Searched.the-variants.{Found, Stopped}
+use Rattle.kdtree.specs.declared.Link.{Link}
+use Rattle.kdtree.specs.declared.Link.the-variants.{Gone, To, Bad}
+use Rattle.kdtree.specs.Geometry.{coordOf, distSq, boxDistSq, nextAxis, leftFirst, goesLeft}
+use Rattle.kdtree.specs.Tree.{Tree, linkOf, sideOf, subtree}
+use Rattle.points.specs.Points.{pointAt}
+use Rattle.kdtree.specs.declared.Slot.{Slot}
+use Rattle.kdtree.specs.declared.Slot.the-variants.{Left, Right, None}
+use Rattle.kdtree.specs.Insert.{sideSlot, slotIn}
+use Rattle.kdtree.specs.Search.{search, improve, visited, farther, afterNear, nearerBox, fartherBox, Go}
+
+-- ---- what a link says
+
+pub data Said (count o l : ℕ) : Link → Type 0 where
+  said-gone : Said count o l Gone
+  said-bad : Said count o l Bad
+  said-to : o < l → l < count → Said count o l (To l)
+
+pub said : (count o l : ℕ) → Said count o l (linkOf count o l)
+unfolding linkOf
+said count o l = go (eqb l 65535) (ltb o l) (ltb l count) refl refl
+  where
+    go : (a b c : Bool) → ltb o l ≡ b → ltb l count ≡ c → Said count o l (cond a Gone (cond b (cond c (To l) Bad) Bad))
+    go true b c e f = said-gone
+    go false true true e f = said-to (ltb-true _ _ e) (ltb-true _ _ f)
+    go false true false e f = said-bad
+    go false false c e f = said-bad
+
+abbrev ToIs : (count o l m : ℕ) → Link → Type 0
+ToIs count o l m k = k ≡ To m → record { is : m ≡ l; above : o < m; below : m < count }
+
+to-is : (count o l m : ℕ) (k : Link) → Said count o l k → ToIs count o l m k
+to-is count o l m k said-gone e = let z : _≡_ {A = ℕ} 0 1 = cc in absurd (omega arith)
+to-is count o l m k said-bad e = let z : _≡_ {A = ℕ} 0 1 = cc in absurd (omega arith)
+to-is count o l m k (said-to h g) e =
+    let z : m ≡ l = cc in record { is = z; above = omega arith; below = omega arith }
+
+pub link-to : (count o l m : ℕ) → To m ≡ linkOf count o l → record { is : m ≡ l; above : o < m; below : m < count }
+link-to count o l m e = to-is count o l m (linkOf count o l) (said count o l) (sym e)
+
+-- ---- one step
+
+module _ (left right : List ℕ) (xs : List Float) (count : ℕ) where
+  abbrev pub T : ℕ → ℕ → Tree
+  T = subtree left right xs count
+
+  -- the side that the link l of the node n leads to
+  unfoldable pub side : ℕ → ℕ → ℕ → Tree
+  side k n l = sideOf (linkOf count n l) (T k l)
+
+  abbrev pub near : Bool → ℕ → ℕ
+  near g n = cond g (getD left n 0) (getD right n 0)
+
+  abbrev pub far : Bool → ℕ → ℕ
+  far g n = cond g (getD right n 0) (getD left n 0)
+
+  module _ (q : Point3) where
+    -- what follows the nearer side
+    abbrev pub rest : ℕ → ℕ → Bool → BoundingBox → ℕ → Best → Searched
+    rest k n g b axis t =
+        farther q (side k n (far g n)) (search count q (side k n (far g n))) (fartherBox g b axis (coordOf (pointAt xs n) axis)) (nextAxis axis)
+        (improve n (distSq (pointAt xs n) q) t)
+
+    abbrev pub deeper : ℕ → ℕ → Bool → BoundingBox → ℕ → Best → Searched
+    deeper k n g b axis s =
+        afterNear (search count q (side k n (near g n)) (nearerBox g b axis (coordOf (pointAt xs n) axis)) (nextAxis axis) (visited s)) (rest k n g b axis)
+
+    step : (k n : ℕ) (b : BoundingBox) (axis : ℕ) (s : Best) (g : Bool) → leftFirst q (pointAt xs n) axis ≡ g → s .visits < count
+        → search count q (T (suc k) n) b axis s ≡ deeper k n g b axis s
+    unfolding search subtree side
+    step k n b axis s true e h = simp (e, lt-ltb _ _ h)
+    step k n b axis s false e h = simp (e, lt-ltb _ _ h)
+
+    -- the code's answer w at the node n, for every fuel that suffices
+    abbrev pub After : ℕ → BoundingBox → ℕ → Best → Searched → Type 0
+    After n b axis s w = (f : ℕ) → count - n ≤ f → w ≡ search count q (T f n) b axis s
+
+    -- no visit is left
+    pub full : (n : ℕ) (b : BoundingBox) (axis : ℕ) (s : Best) → n < count → count ≤ s .visits → After n b axis s Stopped
+    unfolding search subtree
+    full n b axis s h v zero le = absurd (omega arith)
+    full n b axis s h v (suc k) le = simp (le-ltb _ _ v)
+
+    farther-node : (k m : ℕ) (go : Go) (b : BoundingBox) (axis : ℕ) (s : Best) → m < count → count - m ≤ k
+        → farther q (T k m) go b axis s ≡ cond (lt (boxDistSq b q) (s .dist)) (go b axis s) (Found s)
+    unfolding subtree farther
+    farther-node zero m go b axis s h le = absurd (omega arith)
+    farther-node (suc k) m go b axis s h le = refl
+
+    module _ (n : ℕ) (b : BoundingBox) (axis : ℕ) (s : Best) where
+      -- what the code knows past its first calls
+      pub record Here : Type 0 where
+        pub p : Point3
+        pub v : Float
+        pub g : Bool
+        pub nx : ℕ
+        pub below : n < count
+        pub room : s .visits < count
+        pub ep : p ≡ pointAt xs n
+        pub ev : v ≡ coordOf p axis
+        pub eg : g ≡ leftFirst q p axis
+        pub en : nx ≡ nextAxis axis
+
+      module _ (h : Here) where
+        abbrev pub Near : Searched → Type 0
+        Near w = (k : ℕ) → count - suc n ≤ k
+            → w ≡ search count q (side k n (near (h .g) n)) (nearerBox (h .g) b axis (coordOf (pointAt xs n) axis)) (nextAxis axis) (visited s)
+
+        abbrev pub Far : Best → Searched → Type 0
+        Far t r = (k : ℕ) → count - suc n ≤ k → r ≡ rest k n (h .g) b axis t
+
+        pub near-gone : (l : ℕ) (lk : Link) → l ≡ near (h .g) n → lk ≡ linkOf count n l → lk ≡ Gone → Near (Found (visited s))
+        unfolding search side sideOf
+        near-gone l lk el ek e k hk =
+            let z : linkOf count n (near (h .g) n) ≡ Gone = cc in
+            rw z
+
+        pub near-bad : (l : ℕ) (lk : Link) → l ≡ near (h .g) n → lk ≡ linkOf count n l → lk ≡ Bad → Near Stopped
+        unfolding search side sideOf
+        near-bad l lk el ek e k hk =
+            let z : linkOf count n (near (h .g) n) ≡ Bad = cc in
+            rw z
+
+        pub near-to : (l m : ℕ) (lk : Link) (nb : BoundingBox) (r : Searched) → l ≡ near (h .g) n → lk ≡ linkOf count n l → lk ≡ To m
+            → nb ≡ nearerBox (h .g) b axis (h .v) → After m nb (h .nx) (visited s) r → Near r
+        unfolding side sideOf
+        near-to l m lk nb r el ek e eb after k hk =
+            let z : linkOf count n (near (h .g) n) ≡ To m = cc in
+            let i = link-to count n (near (h .g) n) m (sym z) in
+            let a : r ≡ search count q (T k m) nb (h .nx) (visited s) = after k (omega arith) in
+            let w : m ≡ near (h .g) n = i .is in
+            rw z (cc)
+
+        pub stopped : (w : Searched) → Near w → w ≡ Stopped → After n b axis s Stopped
+        unfolding afterNear
+        stopped w nr e zero le = let i = h .below in absurd (omega arith)
+        stopped w nr e (suc k) le =
+            let i = h .below in
+            let z : leftFirst q (pointAt xs n) axis ≡ h .g = cc in
+            sym (step k n b axis s (h .g) z (h .room) ∙ ap (λ (y : Searched). afterNear y (rest k n (h .g) b axis)) (sym (nr k (omega arith)) ∙ e))
+
+        pub went-on : (w : Searched) (t : Best) (r : Searched) → Near w → w ≡ Found t → Far t r → After n b axis s r
+        unfolding afterNear
+        went-on w t r nr e fr zero le = let i = h .below in absurd (omega arith)
+        went-on w t r nr e fr (suc k) le =
+            let i = h .below in
+            let z : leftFirst q (pointAt xs n) axis ≡ h .g = cc in
+            fr k (omega arith)
+            ∙ sym (step k n b axis s (h .g) z (h .room) ∙ ap (λ (y : Searched). afterNear y (rest k n (h .g) b axis)) (sym (nr k (omega arith)) ∙ e))
+
+        -- what the code knows past the farther side's link, t being the best after the nearer side
+        pub record There (t : Best) : Type 0 where
+          pub p : Point3
+          pub v : Float
+          pub d : Float
+          pub best : Best
+          pub l : ℕ
+          pub lk : Link
+          pub ep : p ≡ pointAt xs n
+          pub ev : v ≡ coordOf p axis
+          pub ed : d ≡ distSq p q
+          pub eb : best ≡ improve n d t
+          pub el : l ≡ far (h .g) n
+          pub ek : lk ≡ linkOf count n l
+
+        module _ (t : Best) (k : There t) where
+          pub far-gone : k .lk ≡ Gone → Far t (Found (k .best))
+          unfolding side sideOf farther
+          far-gone e f hf =
+              let z : linkOf count n (far (h .g) n) ≡ Gone = cc in
+              rw z (cc)
+
+          pub far-bad : k .lk ≡ Bad → Far t Stopped
+          unfolding side sideOf farther
+          far-bad e f hf =
+              let z : linkOf count n (far (h .g) n) ≡ Bad = cc in
+              rw z
+
+          pub far-in : (m : ℕ) (fb : BoundingBox) (x : Float) (r : Searched) → k .lk ≡ To m → fb ≡ fartherBox (h .g) b axis (k .v) → x ≡ boxDistSq fb q
+              → lt x (k .best .dist) ≡ true → After m fb (h .nx) (k .best) r → Far t r
+          unfolding side sideOf
+          far-in m fb x r e ef ex less after f hf =
+              let z : linkOf count n (far (h .g) n) ≡ To m = cc in
+              let i = link-to count n (far (h .g) n) m (sym z) in
+              let a : r ≡ search count q (T f m) fb (h .nx) (k .best) = after f (omega arith) in
+              let w : m ≡ far (h .g) n = i .is in
+              let u : lt (boxDistSq fb q) (k .best .dist) ≡ true = cc in
+              let y : farther q (T f m) (search count q (T f m)) fb (h .nx) (k .best) ≡ search count q (T f m) fb (h .nx) (k .best)
+              = farther-node f m (search count q (T f m)) fb (h .nx) (k .best) (i .below) (omega arith) ∙ rw u in
+              rw z (cc)
+
+          pub far-out : (m : ℕ) (fb : BoundingBox) (x : Float) → k .lk ≡ To m → fb ≡ fartherBox (h .g) b axis (k .v) → x ≡ boxDistSq fb q
+              → lt x (k .best .dist) ≡ false → Far t (Found (k .best))
+          unfolding side sideOf
+          far-out m fb x e ef ex less f hf =
+              let z : linkOf count n (far (h .g) n) ≡ To m = cc in
+              let i = link-to count n (far (h .g) n) m (sym z) in
+              let w : m ≡ far (h .g) n = i .is in
+              let u : lt (boxDistSq fb q) (k .best .dist) ≡ false = cc in
+              let y : farther q (T f m) (search count q (T f m)) fb (h .nx) (k .best) ≡ Found (k .best)
+              = farther-node f m (search count q (T f m)) fb (h .nx) (k .best) (i .below) (omega arith) ∙ rw u in
+              rw z (cc)
+
+  -- ---- insertion: the slot of a new point p
+  module _ (p : Point3) where
+    abbrev pub Slotted : ℕ → ℕ → Slot → Type 0
+    Slotted n axis r = (f : ℕ) → count - n ≤ f → r ≡ slotIn p (T f n) axis
+
+    sideSlot-node : (k m : ℕ) (a b : Slot) → m < count → count - m ≤ k → sideSlot (T k m) a b ≡ b
+    unfolding subtree sideSlot
+    sideSlot-node zero m a b h le = absurd (omega arith)
+    sideSlot-node (suc k) m a b h le = refl
+
+    slot-step : (k n axis : ℕ) (g : Bool) → goesLeft p (pointAt xs n) axis ≡ g
+        → slotIn p (T (suc k) n) axis ≡ sideSlot (side k n (near g n)) (cond g (Left n) (Right n)) (slotIn p (side k n (near g n)) (nextAxis axis))
+    unfolding slotIn subtree side
+    slot-step k n axis true e = simp e
+    slot-step k n axis false e = simp e
+
+    module _ (n axis : ℕ) (x : Point3) (g : Bool) (nx l : ℕ) (lk : Link) (below : n < count) (ex : x ≡ pointAt xs n) (eg : g ≡ goesLeft p x axis)
+        (en : nx ≡ nextAxis axis) (el : l ≡ near g n) (ek : lk ≡ linkOf count n l) where
+      gone-at : lk ≡ Gone → Slotted n axis (cond g (Left n) (Right n))
+      unfolding side sideOf sideSlot
+      gone-at e zero le = absurd (omega arith)
+      gone-at e (suc k) le =
+          let y : goesLeft p (pointAt xs n) axis ≡ g = cc in
+          let z : linkOf count n (near g n) ≡ Gone = cc in
+          sym (slot-step k n axis g y ∙ rw z)
+
+      pub gone-left : lk ≡ Gone → g ≡ true → Slotted n axis (Left n)
+      gone-left e u f le = sym (rw u) ∙ gone-at e f le
+
+      pub gone-right : lk ≡ Gone → g ≡ false → Slotted n axis (Right n)
+      gone-right e u f le = sym (rw u) ∙ gone-at e f le
+
+      pub bad-at : lk ≡ Bad → Slotted n axis None
+      unfolding side sideOf sideSlot
+      bad-at e zero le = absurd (omega arith)
+      bad-at e (suc k) le =
+          let y : goesLeft p (pointAt xs n) axis ≡ g = cc in
+          let z : linkOf count n (near g n) ≡ Bad = cc in
+          sym (slot-step k n axis g y ∙ rw z)
+
+      pub deeper-at : (m : ℕ) (r : Slot) → lk ≡ To m → Slotted m nx r → Slotted n axis r
+      unfolding side sideOf
+      deeper-at m r e after zero le = absurd (omega arith)
+      deeper-at m r e after (suc k) le =
+          let y : goesLeft p (pointAt xs n) axis ≡ g = cc in
+          let z : linkOf count n (near g n) ≡ To m = cc in
+          let i = link-to count n (near g n) m (sym z) in
+          let w : m ≡ near g n = i .is in
+          let a : r ≡ slotIn p (T k m) nx = after k (omega arith) in
+          let u : sideSlot (T k m) (cond g (Left n) (Right n)) (slotIn p (T k m) nx) ≡ slotIn p (T k m) nx
+          = sideSlot-node k m (cond g (Left n) (Right n)) (slotIn p (T k m) nx) (i .below) (omega arith) in
+          let v : sideSlot (side k n (near g n)) (cond g (Left n) (Right n)) (slotIn p (side k n (near g n)) (nextAxis axis)) ≡ r = rw z (cc) in
+          sym (slot-step k n axis g y ∙ v)
