@@ -1,0 +1,10 @@
+pub mod Lists
+pub mod Gap
+pub mod Box
+pub mod Pruned
+pub mod First
+pub mod Rep
+pub mod Sides
+pub mod Filled
+pub mod Demand3
+pub mod Table
