@@ -1,6 +1,8 @@
 pub mod Cross
 pub mod Preorder
 pub mod Sign
-pub mod Back
+pub mod Values
 pub mod Ops
 pub mod Ratio
+pub mod Tests
+pub mod Ceiling

@@ -1,21 +1,21 @@
 -- The rounded operations keep the order. A difference x - y with y < x is not negative, grows with x and falls with y; a square grows with the magnitude;
 -- a sum of values that are not negative grows with each, and is no less than either. Overflow to an infinity and underflow to 0 are included. Assumes nothing.
 use mathlib.Core.Path.{_≡_, refl, sym, ap, _∙_, subst}
-use Prim.Native.Nat.{ℕ, zero, suc, _+_, _-_, _*_, _≤_, _<_}
-use native.Mathlib.Nat.{le-trans, le-of-eq, le-of-lt, not-le-of-lt, mul-comm, mul-assoc, mul-left-comm, mul-one, one-mul, zero-mul, add-zero, zero-add, add-comm, add-mul, mul-add, mul-pos, mul-le-mul, mul-le-mul-right, mul-mul-mul-comm}
+use Prim.Native.Nat.{ℕ, _+_, _-_, _*_, _≤_, _<_}
+use native.Mathlib.Nat.{le-of-lt, not-le-of-lt, mul-comm, mul-one, one-mul, zero-mul, add-zero, add-comm, mul-pos}
 use native.Mathlib.Omega.{arith}
 use mathlib.Core.Bool.{Bool, true, false, not, _&&_, cond}
-use lib.IntN.{ℤ, pos, negsuc}
-use lib.Dec.{T, leb, ltb, ltb→lt, lt→ltb}
+use lib.IntN.{ℤ, pos}
+use lib.Dec.{T, ltb, ltb→lt, lt→ltb}
 use lib.Ieee.{Float, nan, inf, fin, Format, up, down, round, neg, sum, add, sub, mul, lt, le, fits, isNan}
 use lib.Ieee.Fits.{down-pos}
 use lib.Ieee.Order.{round-mono}
 use lib.Ieee.Positive.{den, den-pos}
-use lib.Ieee.Scale.{finite, round-same}
-use Rattle.floats.proofs.Cross.{plus, less, cross, lt-is, le-is, le→cross, cross→le, shift, shift-below, sums, squares}
-use Rattle.floats.proofs.Preorder.{number, le-nan, nan-le, le-refl-f, le-trans-f, lt→le, lt-le-trans, le-lt-trans}
-use Rattle.floats.proofs.Sign.{nonneg, round-neg, round-nonneg, sq-sub-comm, sq-neg}
-use Rattle.floats.proofs.Back.{round-back}
+use lib.Ieee.Scale.{finite}
+use Rattle.floats.proofs.Cross.{plus, less, cross, lt-is, le→cross, cross→le, shift, shift-below, sums, squares}
+use Rattle.floats.proofs.Preorder.{number, le-nan, nan-le, le-refl-f, lt-le-trans, le-lt-trans}
+use Rattle.floats.proofs.Sign.{nonneg, round-neg, round-nonneg, sq-neg}
+use Rattle.floats.proofs.Values.{round-back}
 
 pub nonneg-number : (x : Float) → T (nonneg x) → T (number x)
 unfolding isNan

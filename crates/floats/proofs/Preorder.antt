@@ -1,17 +1,14 @@
 -- `le`, `lt` and `eq` of floats: on all values but `nan` a total preorder, infinities included, with -0 equal to +0. A comparison with `nan` is false. Assumes nothing.
 use mathlib.Core.Path.{_≡_, refl, sym, ap, _∙_, subst}
-use mathlib.Core.Logic.{inl, inr}
-use Prim.Native.Nat.{ℕ, zero, suc, _+_, _*_, _≤_, _<_}
+use Prim.Native.Nat.{ℕ, _≤_, _<_}
 use native.Mathlib.Nat.{le-refl, le-of-lt, le-of-eq, le-antisymm, not-le-of-lt, zero-mul}
-use native.Mathlib.Omega.{arith}
 use mathlib.Core.Bool.{Bool, true, false, not, _&&_, _||_}
 use lib.IntN.{ℤ}
-use lib.Dec.{T, leb, ltb, eqb, eqb→eq, eqb-refl, leb→le, le→leb, ltb→lt, lt→ltb, nleb→lt, not-T, T-not}
-use lib.Ieee.{Float, nan, inf, fin, up, down, lt, eq, le, isNan}
+use lib.Dec.{T, leb, ltb, eqb, eqb→eq, leb→le, le→leb, ltb→lt, lt→ltb, nleb→lt, not-T, T-not}
+use lib.Ieee.{Float, nan, inf, fin, lt, eq, le, isNan}
 use lib.Ieee.Fits.{and-i, and-l, and-r, eq→eqb}
 use lib.Ieee.Positive.{den, den-pos}
-use lib.Ieee.Scale.{finite}
-use Rattle.floats.proofs.Cross.{plus, less, cross, iff→eq, or-l, or-r, or-e, lt-is, eq-is, le-is, le→cross, cross→le, chain}
+use Rattle.floats.proofs.Cross.{plus, less, cross, iff→eq, or-l, or-r, lt-is, eq-is, le-is, le→cross, cross→le, chain}
 
 -- not `nan`
 abbrev pub number : Float → Bool

@@ -1,22 +1,19 @@
 -- Rounded quotients and products of finite values that are not negative: they keep the order, a quotient of a value by a larger one is at most 1,
 -- and a product with a factor of at most 1 is at most the other factor. Assumes nothing.
-use mathlib.Core.Path.{_≡_, refl, sym, ap, _∙_, subst}
+use mathlib.Core.Path.{_≡_, refl, sym, subst}
 use mathlib.Core.Logic.{_⊎_, inl, inr}
 use Prim.Native.Nat.{ℕ, zero, suc, _+_, _*_, _≤_, _<_}
-use native.Mathlib.Nat.{le-trans, le-of-eq, le-antisymm, mul-comm, mul-assoc, mul-left-comm, mul-one, one-mul, zero-mul, mul-pos, mul-le-mul, mul-mul-mul-comm, lt-irrefl, eq-zero-or-pos}
+use native.Mathlib.Nat.{le-trans, le-of-eq, mul-comm, mul-assoc, mul-left-comm, mul-one, one-mul, mul-pos, mul-le-mul, mul-mul-mul-comm, lt-irrefl, eq-zero-or-pos}
 use native.Mathlib.Omega.{arith}
 use mathlib.Core.Bool.{Bool, true, false, not, cond}
 use lib.IntN.{ℤ, pos}
 use lib.Dec.{T, ltb, eqb, eqb→eq, ltb→lt}
-use lib.Ieee.{Float, nan, inf, fin, Format, up, down, round, mul, div, le, eq, fits, binary32}
-use lib.Ieee.Fits.{up-pos, down-pos, round-fits}
-use lib.Ieee.Exact.{HasValue}
+use lib.Ieee.{Float, nan, inf, fin, Format, up, down, round, mul, div, le, fits, binary32}
+use lib.Ieee.Fits.{up-pos, down-pos}
 use lib.Ieee.Order.{round-mono}
-use lib.Ieee.Positive.{num, den, den-pos, positive, first-pos}
-use lib.Ieee.Scale.{finite}
-use Rattle.floats.proofs.Cross.{cross, le→cross}
-use Rattle.floats.proofs.Sign.{nonneg}
-use Rattle.floats.proofs.Back.{unique, round-back}
+use lib.Ieee.Positive.{num, positive}
+use Rattle.floats.proofs.Cross.{le→cross}
+use Rattle.floats.proofs.Values.{value-unique, round-back}
 
 abbrev pub one : Float
 one = fin false 1 (pos 0)
@@ -141,7 +138,7 @@ no-part a b c C h = elim (eq-zero-or-pos a) [ inl z ↦ z | inr p ↦ absurd (no
     none x b p h = omega arith
 
 same-fin : (f : Format) (s : Bool) (m : ℕ) (e : ℤ) (n : ℕ) (d : ℤ) → T (fits f (fin s m e)) → T (fits f (fin s n d)) → m * up e * down d ≡ n * up d * down e → fin s m e ≡ fin s n d
-same-fin f s m e n d p q h = unique f s (fin s m e) (fin s n d) (n * up d) (down d) (down-pos d) p q (refl, h) (refl, refl)
+same-fin f s m e n d p q h = value-unique f (fin s m e) (fin s n d) s (n * up d) (down d) p q (down-pos d) (refl, h) (refl, refl)
 
 pub le-antisymm-f : (f : Format) (x y : Float) → T (fits f x) → T (fits f y) → T (le x y) → T (le y x) → (x ≡ y) ⊎ ((num x ≡ 0) × (num y ≡ 0))
 le-antisymm-f f nan y p q h k = unfold le in absurd h

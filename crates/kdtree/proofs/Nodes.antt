@@ -14,7 +14,8 @@ use Rattle.kdtree.specs.declared.Searched.the-variants.{Found, Stopped}
 use Rattle.kdtree.specs.declared.Link.{Link}
 use Rattle.kdtree.specs.declared.Slot.{Slot}
 use Rattle.kdtree.specs.declared.Slot.the-variants.{Left, Right, None}
-use Rattle.kdtree.specs.Geometry.{coordOf, distSq, boxDistSq, nextAxis, leftFirst, goesLeft}
+use Rattle.points.specs.Points.{distSq}
+use Rattle.kdtree.specs.Geometry.{coordOf, boxDistSq, nextAxis, leftFirst, goesLeft}
 use Rattle.kdtree.specs.Tree.{Tree, gone, bad, node, sideOf, subtree}
 use Rattle.kdtree.specs.Search.{search, improve, visited, farther, afterNear, nearerBox, fartherBox, Go}
 use Rattle.kdtree.specs.Insert.{slotIn, sideSlot}

@@ -16,9 +16,9 @@ use Rattle.kdtree.specs.declared.Searched.{Searched}
 use Rattle.kdtree.specs.declared.Searched.the-variants.{Found, Stopped}
 use Rattle.kdtree.specs.declared.Link.{Link}
 use Rattle.kdtree.specs.declared.Link.the-variants.{Gone, To, Bad}
-use Rattle.kdtree.specs.Geometry.{coordOf, distSq, boxDistSq, nextAxis, leftFirst, goesLeft}
+use Rattle.kdtree.specs.Geometry.{coordOf, boxDistSq, nextAxis, leftFirst, goesLeft}
 use Rattle.kdtree.specs.Tree.{Tree, linkOf, sideOf, subtree}
-use Rattle.points.specs.Points.{pointAt}
+use Rattle.points.specs.Points.{pointAt, distSq}
 use Rattle.kdtree.specs.declared.Slot.{Slot}
 use Rattle.kdtree.specs.declared.Slot.the-variants.{Left, Right, None}
 use Rattle.kdtree.specs.Insert.{sideSlot, slotIn}

@@ -1,10 +1,11 @@
--- Coordinates, squared distances and boxes, by the operations of binary32, as document 01 has them ("Distance, tree, tie").
+-- Coordinates and boxes, by the operations of binary32, as document 01 has them ("Distance, tree, tie").
 use mathlib.Core.Path.{_≡_, refl}
 use Prim.Native.Nat.{ℕ, zero, suc}
 use mathlib.Core.Bool.{Bool, cond}
-use lib.Ieee.{Float, binary32, add, sub, mul, lt, le}
+use lib.Ieee.{Float, binary32, add, sub, lt, le}
 use Rattle.floats.specs.Floats.{zero32}
 use Rattle.points.specs.declared.Point3.{Point3}
+use Rattle.points.specs.Points.{gap}
 use Rattle.kdtree.specs.declared.BoundingBox.{BoundingBox}
 
 -- one of three by the axis: 0, 1, and 2 (or anything else)
@@ -28,15 +29,7 @@ unfoldable pub nextAxis : ℕ → ℕ
 unfolding byAxis
 nextAxis n = byAxis n 1 2 0
 
--- ---- distances
-
--- the square of a difference
-abbrev pub gap : Float → Float → Float
-gap a b = mul binary32 (sub binary32 a b) (sub binary32 a b)
-
--- (dx·dx + dy·dy) + dz·dz
-unfoldable pub distSq : Point3 → Point3 → Float
-distSq a b = add binary32 (add binary32 (gap (a .x) (b .x)) (gap (a .y) (b .y))) (gap (a .z) (b .z))
+-- ---- distance to a box
 
 -- one axis of a box's distance: added only where q lies outside of it
 unfoldable pub outside : Float → Float → Float → Float → Float

@@ -6,14 +6,13 @@ use lib.ListN.{length, getD}
 use lib.Dec.{eqb, leb}
 use lib.Ieee.{Float}
 use Rattle.points.specs.declared.Point3.{Point3}
-use Rattle.points.specs.Points.{pointAt}
+use Rattle.points.specs.Points.{pointAt, distSq}
 use Rattle.kdtree.specs.declared.BoundingBox.{BoundingBox}
 use Rattle.kdtree.specs.declared.Best.{Best}
 use Rattle.kdtree.specs.declared.Searched.{Searched}
 use Rattle.kdtree.specs.declared.Searched.the-variants.{Found, Stopped}
 use Rattle.kdtree.specs.declared.Named.{Named}
 use Rattle.kdtree.specs.declared.Named.the-variants.{Nothing, Number, Refused}
-use Rattle.kdtree.specs.Geometry.{distSq}
 use Rattle.kdtree.specs.Tree.{subtree}
 use Rattle.kdtree.specs.Search.{search}
 use Rattle.kdtree.specs.Insert.{Lists}

@@ -5,7 +5,8 @@ use mathlib.Core.List.{List, [], _∷_, _++_}
 use lib.Ieee.{Float, lt}
 use Rattle.points.specs.declared.Point3.{Point3}
 use Rattle.kdtree.specs.declared.Best.{Best}
-use Rattle.kdtree.specs.Geometry.{distSq, nextAxis, leftFirst}
+use Rattle.points.specs.Points.{distSq}
+use Rattle.kdtree.specs.Geometry.{nextAxis, leftFirst}
 use Rattle.kdtree.specs.Tree.{Tree, gone, bad, node}
 
 -- the best so far, without the visits

@@ -11,7 +11,7 @@ ghost use mathlib.Core.Path.{_≡_};
 ghost use mathlib.Core.Bool.{cond};
 ghost use Prim.Native.Nat.{ℕ, _+_, _-_, _*_, _<_, _≤_};
 ghost use lib.ListN.{length, getD};
-ghost use Rattle.kdtree.specs.Geometry.{coordOf, nextAxis, distSq, outside, boxDistSq, boxAt, lower, upper, grown, withMin, withMax, goesLeft, leftFirst};
+ghost use Rattle.kdtree.specs.Geometry.{coordOf, nextAxis, outside, boxDistSq, boxAt, lower, upper, grown, withMin, withMax, goesLeft, leftFirst};
 ghost use Rattle.kdtree.specs.Tree.{linkOf, subtree};
 ghost use Rattle.kdtree.specs.Search.{search, improve, nearerBox, fartherBox};
 ghost use Rattle.kdtree.specs.Insert.{listsOf, storedAs, slotIn, written, roomFor, insertOf};
@@ -37,15 +37,6 @@ fn next_axis(axis: u8) -> u8
         1 => 2,
         _ => 0,
     }
-}
-
-pub fn dist_sq(a: Point3, b: Point3) -> f32
-    ensures { λ r. ⌜ r ≡ distSq a b ⌝ }
-{
-    let dx = a.x - b.x;
-    let dy = a.y - b.y;
-    let dz = a.z - b.z;
-    (dx * dx + dy * dy) + dz * dz
 }
 
 // One axis of a box's distance: added only where q lies outside of it.
@@ -296,7 +287,7 @@ fn nearest_rec(
     };
     let p2 = points::point_at(positions, node);
     let v2 = coord(p2, axis);
-    let best2 = better(node as u16, dist_sq(p2, q), t);
+    let best2 = better(node as u16, points::dist_sq(p2, q), t);
     let farther = pick(go_left, right, left, node);
     match link_of(count, node, farther) {
         Link::Gone => Searched::Found(best2),
@@ -326,7 +317,7 @@ pub fn nearest_place(
 {
     let root = points::point_at(positions, 0);
     let start = Best {
-        dist: dist_sq(root, q),
+        dist: points::dist_sq(root, q),
         place: 0,
         visits: 0,
     };

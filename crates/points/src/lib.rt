@@ -1,10 +1,10 @@
-// A point of three f32, and how a lent list holds points: x, y, z, one after the other.
+// A point of three f32, how a lent list holds points (x, y, z, one after the other), and the squared distance of two points.
 //
-// The definition is `pointAt` (specs/Points.antt). Document 01's kdtree.rs calls the type Point3; here it has named coordinates.
+// The definitions are `pointAt` and `distSq` (specs/Points.antt). The type is the source's Point3, with named coordinates.
 ghost use mathlib.Core.Path.{_≡_};
 ghost use Prim.Native.Nat.{_+_, _*_, _<_};
 ghost use lib.ListN.{length};
-ghost use Rattle.points.specs.Points.{pointAt};
+ghost use Rattle.points.specs.Points.{pointAt, distSq};
 
 pub struct Point3 {
     pub x: f32,
@@ -23,4 +23,14 @@ pub fn point_at(xs: &[f32], place: usize) -> Point3
         y: xs[at + 1],
         z: xs[at + 2],
     }
+}
+
+// (dx * dx + dy * dy) + dz * dz, rounded at each operation.
+pub fn dist_sq(a: Point3, b: Point3) -> f32
+    ensures { λ r. ⌜ r ≡ distSq a b ⌝ }
+{
+    let dx = a.x - b.x;
+    let dy = a.y - b.y;
+    let dz = a.z - b.z;
+    (dx * dx + dy * dy) + dz * dz
 }

@@ -1,6 +1,7 @@
 -- The bare tree at the C border: what stands for each case of its answers. Definitions only.
 use Prim.Native.Nat.{ℕ}
-use lib.Ieee.{Float, binary32, ofBits}
+use lib.Ieee.{Float}
+use Rattle.floats.specs.Floats.{zero32}
 use Rattle.points.specs.declared.Point3.{Point3}
 use Rattle.kdtree.specs.declared.BoundingBox.{BoundingBox}
 use Rattle.kdtree.specs.declared.Inserted.{Inserted}
@@ -19,14 +20,11 @@ boxIn b = record { «min_x» = b .«min_x»; «min_y» = b .«min_y»; «min_z»
 abbrev pub boxOut : BoundingBox → SofaBox
 boxOut b = record { «min_x» = b .«min_x»; «min_y» = b .«min_y»; «min_z» = b .«min_z»; «max_x» = b .«max_x»; «max_y» = b .«max_y»; «max_z» = b .«max_z» }
 
-abbrev zero : Float
-zero = ofBits binary32 0
-
 -- the new box, with reason 0; a refusal has its number and place, and +0 for each corner
 abbrev pub insertedAs : Inserted → SofaInserted
 insertedAs (inserted.Done b) = record { reason = 0; place = 0; bounds = boxOut b }
 insertedAs (inserted.Refused n p) =
-    record { reason = n; place = p; bounds = record { «min_x» = zero; «min_y» = zero; «min_z» = zero; «max_x» = zero; «max_y» = zero; «max_z» = zero } }
+    record { reason = n; place = p; bounds = record { «min_x» = zero32; «min_y» = zero32; «min_z» = zero32; «max_x» = zero32; «max_y» = zero32; «max_z» = zero32 } }
 
 -- the number, with reason 0; nothing is 65535, with reason 0; a refusal has its number and place, and 65535
 abbrev pub foundAs : Named → SofaFound

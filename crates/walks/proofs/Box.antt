@@ -9,7 +9,8 @@ use lib.Ieee.{Float, nan, fin, binary32, add, sub, lt, le, fits, ofBits}
 use lib.Ieee.Fits.{add-fits, mul-fits}
 use Rattle.points.specs.declared.Point3.{Point3}
 use Rattle.kdtree.specs.declared.BoundingBox.{BoundingBox}
-use Rattle.kdtree.specs.Geometry.{gap, distSq, outside, boxDistSq, lower, upper, grown}
+use Rattle.points.specs.Points.{gap, distSq}
+use Rattle.kdtree.specs.Geometry.{outside, boxDistSq, lower, upper, grown}
 use Rattle.walks.specs.Demand3.{Finite}
 use Rattle.floats.proofs.Cross.{of-taken, of-left}
 use Rattle.floats.proofs.Preorder.{number, le-trans-f, lt→le, le→not-lt, not-lt→le, not-lt-trans, lt-irrefl-f, lt-trans-f}

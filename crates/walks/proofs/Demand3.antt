@@ -10,7 +10,7 @@ use lib.Dec.{T, T-not}
 use lib.Ieee.{Float, lt}
 use borrow.Author.Tests.{le-leb}
 use Rattle.points.specs.declared.Point3.{Point3}
-use Rattle.points.specs.Points.{pointAt}
+use Rattle.points.specs.Points.{pointAt, distSq}
 use Rattle.floats.proofs.Cross.{of-taken, of-left}
 use Rattle.floats.proofs.Preorder.{number, nan-lt, lt→le, le→not-lt, lt-irrefl-f}
 use Rattle.kdtree.specs.declared.BoundingBox.{BoundingBox}
@@ -18,7 +18,6 @@ use Rattle.kdtree.specs.declared.Best.{Best}
 use Rattle.kdtree.specs.declared.Searched.{Searched}
 use Rattle.kdtree.specs.declared.Searched.the-variants.{Found, Stopped}
 use Rattle.kdtree.specs.declared.Named.the-variants.{Nothing, Number}
-use Rattle.kdtree.specs.Geometry.{distSq}
 use Rattle.kdtree.specs.Tree.{Tree, gone, bad, node}
 use Rattle.kdtree.specs.Search.{search}
 use Rattle.kdtree.specs.Unpruned.{Pick, pickOf, Item, walk, order, size}

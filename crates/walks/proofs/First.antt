@@ -11,7 +11,8 @@ use lib.Ieee.Bits.{is-true, is-false}
 use Rattle.points.specs.declared.Point3.{Point3}
 use Rattle.floats.proofs.Cross.{of-taken, of-left}
 use Rattle.floats.proofs.Preorder.{number, lt-trans-f, lt-irrefl-f, not-lt-trans}
-use Rattle.kdtree.specs.Geometry.{distSq, nextAxis, leftFirst}
+use Rattle.points.specs.Points.{distSq}
+use Rattle.kdtree.specs.Geometry.{nextAxis, leftFirst}
 use Rattle.kdtree.specs.Tree.{Tree, gone, bad, node}
 use Rattle.kdtree.specs.Unpruned.{Pick, Item, meet, walk, order}
 use Rattle.kdtree.proofs.Nodes.{All}

@@ -12,7 +12,8 @@ use Rattle.kdtree.specs.declared.BoundingBox.{BoundingBox}
 use Rattle.kdtree.specs.declared.Best.{Best}
 use Rattle.kdtree.specs.declared.Searched.{Searched}
 use Rattle.kdtree.specs.declared.Searched.the-variants.{Found, Stopped}
-use Rattle.kdtree.specs.Geometry.{coordOf, distSq, boxDistSq, withMin, withMax, nextAxis, leftFirst}
+use Rattle.points.specs.Points.{distSq}
+use Rattle.kdtree.specs.Geometry.{coordOf, boxDistSq, withMin, withMax, nextAxis, leftFirst}
 use Rattle.kdtree.specs.Tree.{Tree, gone, bad, node}
 use Rattle.kdtree.specs.Search.{search, improve, visited, farther, afterNear, nearerBox, fartherBox, Go}
 use Rattle.kdtree.specs.Unpruned.{Pick, pickOf, meet, walk, size}

@@ -1,8 +1,8 @@
 -- P1 to P7, by computation. Assumes nothing.
 use mathlib.Core.Path.{refl}
 use lib.Ieee.{ofBits, add, sub, mul, neg, lt, le, eq}
-use Rattle.points.specs.Points.{pointAt}
-use Rattle.kdtree.specs.Geometry.{byAxis, coordOf, nextAxis, distSq, outside, boxDistSq, boxAt, grown, withMin, withMax, goesLeft, leftFirst}
+use Rattle.points.specs.Points.{pointAt, distSq}
+use Rattle.kdtree.specs.Geometry.{byAxis, coordOf, nextAxis, outside, boxDistSq, boxAt, grown, withMin, withMax, goesLeft, leftFirst}
 use Rattle.kdtree.specs.Tree.{linkOf, sideOf, subtree}
 use Rattle.kdtree.specs.Search.{improve, visited, nearerBox, fartherBox, farther, afterNear, search}
 use Rattle.kdtree.specs.Insert.{sideSlot, slotIn, written, linkedLeft, linkedRight, bySlot, insertOf}

@@ -10,14 +10,13 @@ use lib.Dec.{T}
 use lib.Ieee.{Float, nan, lt}
 use lib.Ieee.Scale.{finite}
 use Rattle.points.specs.declared.Point3.{Point3}
-use Rattle.points.specs.Points.{pointAt}
+use Rattle.points.specs.Points.{pointAt, distSq}
 use Rattle.kdtree.specs.declared.BoundingBox.{BoundingBox}
 use Rattle.kdtree.specs.declared.Inserted.{Inserted}
 use Rattle.kdtree.specs.declared.Inserted.the-variants.{Done, Refused}
 use Rattle.kdtree.specs.declared.Searched.{Searched}
 use Rattle.kdtree.specs.declared.Named.{Named}
 use Rattle.kdtree.specs.declared.Named.the-variants.{Number}
-use Rattle.kdtree.specs.Geometry.{distSq}
 use Rattle.kdtree.specs.Tree.{Tree}
 use Rattle.kdtree.specs.Unpruned.{Item, walk, order}
 use Rattle.kdtree.specs.Insert.{Lists, Stored, treeOf, insertOf}

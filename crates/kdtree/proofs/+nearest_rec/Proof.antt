@@ -16,7 +16,7 @@ use Rattle.kdtree.proofs.+nearest_rec.Lts-nearest_rec as nearest-rec-lt
 use Rattle.kdtree.proofs.better.Reads as better-reads
 use Rattle.kdtree.proofs.BoundingBox.dist_sq.Reads as BoundingBox-dist-sq-reads
 use Rattle.kdtree.proofs.coord.Reads as coord-reads
-use Rattle.kdtree.proofs.dist_sq.Reads as dist-sq-reads
+use Rattle.points.proofs.dist_sq.Reads as dist-sq-reads
 use Rattle.kdtree.proofs.farther_box.Reads as farther-box-reads
 use Rattle.kdtree.proofs.link_of.Reads as link-of-reads
 use Rattle.kdtree.proofs.nearer_box.Reads as nearer-box-reads

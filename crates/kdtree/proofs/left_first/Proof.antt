@@ -1,3 +1,4 @@
+use lib.Ieee.{ofBits}
 use Rattle.kdtree.specs.Geometry.{leftFirst}
 use borrow.Author.Needs.{needs}
 use Rattle.kdtree.proofs.left_first.Statement.{statement}
@@ -10,7 +11,7 @@ coord-requires-2 : tie.Need-coord-requires-2
 coord-requires-2 c κs = search needs
 
 returns : tie.Need-returns
-unfolding leftFirst
+unfolding leftFirst ofBits
 returns c = cc
 
 pub left-first-spec : {M : Type 1} → statement M

@@ -1,48 +1,37 @@
+-- `points::point_at` meets its contract. Assumes nothing.
 use mathlib.Core.Path.{refl}
 use Rattle.points.specs.Points.{pointAt}
 use borrow.Author.Needs.{needs}
 use Rattle.points.proofs.point_at.Statement.{statement}
 use Rattle.points.proofs.point_at.Tie as tie
-use Rattle.points.proofs.point_at.Reads as reads
-use Rattle.points.proofs.point_at.Lts as lts
 
--- src/lib.rt:20:14
 mul-at : tie.Need-mul-at
 mul-at c = search needs
 
--- src/lib.rt:22:12
 mul-t4 : tie.Need-mul-t4
 mul-t4 c = search needs
 
--- src/lib.rt:22:12
 shared-slice-read-t6 : tie.Need-shared-slice-read-t6
 shared-slice-read-t6 c = search needs
 
--- src/lib.rt:23:15
 add-t7 : tie.Need-add-t7
 add-t7 c = search needs
 
--- src/lib.rt:23:12
 mul-t8 : tie.Need-mul-t8
 mul-t8 c = search needs
 
--- src/lib.rt:23:12
 shared-slice-read-t10 : tie.Need-shared-slice-read-t10
 shared-slice-read-t10 c = search needs
 
--- src/lib.rt:24:15
 add-t11 : tie.Need-add-t11
 add-t11 c = search needs
 
--- src/lib.rt:24:12
 mul-t12 : tie.Need-mul-t12
 mul-t12 c = search needs
 
--- src/lib.rt:24:12
 shared-slice-read-t14 : tie.Need-shared-slice-read-t14
 shared-slice-read-t14 c = search needs
 
--- src/lib.rt:16:1
 returns : tie.Need-returns
 unfolding pointAt
 returns c = refl

@@ -1,3 +1,4 @@
+use lib.Ieee.{ofBits}
 use Rattle.kdtree.specs.Geometry.{boxDistSq}
 use borrow.Author.Needs.{needs}
 use Rattle.kdtree.proofs.BoundingBox.dist_sq.Statement.{statement}
@@ -13,7 +14,7 @@ beyond-requires-3 : tie.Need-beyond-requires-3
 beyond-requires-3 c κs = search needs
 
 returns : tie.Need-returns
-unfolding boxDistSq
+unfolding boxDistSq ofBits
 returns c = cc
 
 pub dist-sq-spec : {M : Type 1} → statement M

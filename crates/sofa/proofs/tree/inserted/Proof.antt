@@ -1,4 +1,5 @@
 -- `sofa::tree::inserted` meets its contract. Assumes nothing.
+use lib.Ieee.{ofBits}
 use mathlib.Core.Path.{sym, ap}
 use Rattle.sofa.specs.Tree.{insertedAs}
 use borrow.Author.Needs.{needs}
@@ -18,6 +19,7 @@ returns : tie.Need-returns
 returns c = simp (c .box-out .ensures) (sym (ap insertedAs (c .before .before .a .given .1)))
 
 returns-2 : tie.Need-returns-2
+unfolding ofBits
 returns-2 c = sym (ap insertedAs (c .before .a2 .given .1))
 
 pub inserted-spec : {M : Type 1} → statement M

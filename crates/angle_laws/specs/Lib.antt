@@ -1,0 +1,4 @@
+pub mod Series
+pub mod Angle
+pub mod Asked
+pub mod Examples

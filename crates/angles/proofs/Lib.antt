@@ -1,0 +1,13 @@
+pub mod Bounds
+pub mod Scan
+pub mod Steps
+pub mod Rounding
+pub mod Input
+pub mod Range
+pub mod Whole
+pub mod Seek
+pub mod Ratio
+pub mod Sides
+pub mod Cert
+pub mod Axis
+pub mod Calls

@@ -1,0 +1,12 @@
+-- `angles::in_range` meets its contract. Assumes nothing.
+use mathlib.Core.Path.{_≡_, refl}
+use lib.Ieee.{ofBits, neg}
+use Rattle.angles.proofs.in_range.Statement.{statement}
+use Rattle.angles.proofs.in_range.Tie as tie
+
+returns : tie.Need-returns
+unfolding ofBits neg
+returns c = refl
+
+pub in-range-spec : {M : Type 1} → statement M
+in-range-spec = tie.close (tie.spec returns)

@@ -1,0 +1,75 @@
+-- The loop that changes a list three values at a time, for any change of a triplet: what is changed so far, followed by what is left to change,
+-- is the whole. Assumes nothing.
+use Prim.Native.Nat.{ℕ, zero, suc, _+_, _≤_, _<_}
+use mathlib.Core.Path.{_≡_, refl, sym, ap, _∙_}
+use mathlib.Core.List.{List, [], _∷_, _++_, append-assoc}
+use native.Mathlib.Omega.{arith}
+use lib.ListN.{length, take, drop, getD, set, length-append, length-drop, take-append-drop}
+use lib.Seq.{drop-cons, length-take-le, sets, sets-eq, take-at, drop-at}
+use lib.Ieee.{Float, nan}
+use Rattle.points.specs.declared.Point3.{Point3}
+use Rattle.limits.specs.declared.Verdict.{Verdict}
+use Rattle.limits.specs.declared.Verdict.the-variants.{Fine, Refused}
+use Rattle.limits.specs.Refusals.{verdictOf, valueLines}
+use Rattle.coords.specs.Arrays.{turned, tripletAt, byTriplets, convertedAs, keptOr, convertOf}
+
+-- the values of a triplet
+abbrev pub valuesOf : Point3 → List Float
+valuesOf t = t .x ∷ t .y ∷ t .z ∷ []
+
+-- a triplet and what follows it
+three : (xs : List Float) (i : ℕ) → i + 2 < length xs → drop i xs ≡ getD xs i nan ∷ getD xs (i + 1) nan ∷ getD xs (i + 2) nan ∷ drop (i + 3) xs
+three xs i h =
+    let e1 : suc i ≡ i + 1 = omega arith in
+    let e2 : suc (i + 1) ≡ i + 2 = omega arith in
+    let e3 : suc (i + 2) ≡ i + 3 = omega arith in
+    rw (drop-cons xs i nan (omega arith), e1, drop-cons xs (i + 1) nan (omega arith), e2, drop-cons xs (i + 2) nan h, e3)
+
+-- three stores in a row
+stored : (xs : List Float) (i : ℕ) (t : Point3) → i + 2 < length xs → set (set (set xs i (t .x)) (i + 1) (t .y)) (i + 2) (t .z) ≡ take i xs ++ valuesOf t ++ drop (i + 3) xs
+stored xs i t h =
+    let e1 : i + 1 ≡ suc i = omega arith in
+    let e2 : i + 2 ≡ suc (suc i) = omega arith in
+    rw (e1, e2) (sets-eq (valuesOf t) xs i (omega arith))
+
+module _ (f : Point3 → Point3) where
+  by-three : (a b c : Float) (rest : List Float) (t : Point3) → t ≡ f (record { x = a; y = b; z = c }) → byTriplets f (a ∷ b ∷ c ∷ rest) ≡ valuesOf t ++ byTriplets f rest
+  unfolding byTriplets
+  by-three a b c rest t e = rw e
+
+  -- one turn of the loop
+  pub turn : (xs : List Float) (i : ℕ) (t : Point3) → t ≡ f (tripletAt xs i) → i + 2 < length xs
+      → (ys : List Float) → ys ≡ set (set (set xs i (t .x)) (i + 1) (t .y)) (i + 2) (t .z)
+      → take (i + 3) ys ++ byTriplets f (drop (i + 3) ys) ≡ take i xs ++ byTriplets f (drop i xs)
+  unfolding tripletAt
+  turn xs i t e h ys s =
+      let p = take i xs ++ valuesOf t in
+      let rest = drop (i + 3) xs in
+      let len : length p ≡ i + 3 = simp (length-append) (omega (arith, length-take-le i xs (omega arith))) in
+      let whole : ys ≡ p ++ rest = s ∙ stored xs i t h in
+      rw (whole, take-at p rest (i + 3) len, drop-at p rest (i + 3) len, three xs i h, by-three _ _ _ rest t e)
+      (append-assoc (take i xs) (valuesOf t) (byTriplets f rest))
+
+  short : (xs : List Float) → length xs < 3 → byTriplets f xs ≡ xs
+  unfolding byTriplets
+  short [] h = refl
+  short (a ∷ []) h = refl
+  short (a ∷ b ∷ []) h = refl
+  short (a ∷ b ∷ c ∷ rest) h = absurd (omega arith)
+
+  -- at the end one or two values are left over, or none
+  pub done : (xs : List Float) (i : ℕ) → length xs < i + 3 → take i xs ++ byTriplets f (drop i xs) ≡ xs
+  done xs i h =
+      let left : length (drop i xs) < 3 = simp length-drop (omega arith) in
+      rw (short (drop i xs) left) (take-append-drop i xs)
+
+-- ---- what a checked conversion says, from its verdict v
+
+module _ (kind : ℕ) (xs : List Float) (v : Verdict) (judged : v ≡ verdictOf (valueLines kind xs)) where
+  pub stays : (n p : ℕ) → v ≡ Refused n p → convertedAs v xs ≡ convertOf kind xs
+  unfolding convertOf keptOr
+  stays n p r = rw (← judged, r)
+
+  pub changes : (ys : List Float) → v ≡ Fine → ys ≡ byTriplets (turned kind) xs → convertedAs v ys ≡ convertOf kind xs
+  unfolding convertOf keptOr
+  changes ys fine e = rw (← judged, fine, e)

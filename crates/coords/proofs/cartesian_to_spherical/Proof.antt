@@ -1,0 +1,29 @@
+use Rattle.coords.specs.Coords.{sphericalOf}
+use borrow.Author.Needs.{needs}
+use Rattle.coords.proofs.cartesian_to_spherical.Statement.{statement}
+use Rattle.coords.proofs.cartesian_to_spherical.Tie as tie
+use Rattle.coords.proofs.cartesian_to_spherical.Reads as reads
+use Rattle.coords.proofs.cartesian_to_spherical.Lts as lts
+use Rattle.angles.proofs.atan2.Reads as atan2-reads
+use Rattle.coords.proofs.radius.Reads as radius-reads
+use Rattle.root.proofs.root.Reads as root-reads
+
+atan2-requires : tie.Need-atan2-requires
+atan2-requires c κs = search needs
+
+root-requires : tie.Need-root-requires
+root-requires c κs = search needs
+
+atan2-requires-2 : tie.Need-atan2-requires-2
+atan2-requires-2 c κs = search needs
+
+radius-requires : tie.Need-radius-requires
+radius-requires c κs = search needs
+
+returns : tie.Need-returns
+unfolding sphericalOf
+returns c = cc
+
+pub cartesian-to-spherical-spec : {M : Type 1} → statement M
+cartesian-to-spherical-spec =
+    tie.close (tie.spec atan2-requires root-requires atan2-requires-2 radius-requires returns)

@@ -1,0 +1,25 @@
+use Rattle.coords.specs.Coords.{cartesianOf}
+use borrow.Author.Needs.{needs}
+use Rattle.coords.proofs.spherical_to_cartesian.Statement.{statement}
+use Rattle.coords.proofs.spherical_to_cartesian.Tie as tie
+use Rattle.coords.proofs.spherical_to_cartesian.Reads as reads
+use Rattle.coords.proofs.spherical_to_cartesian.Lts as lts
+use Rattle.coords.proofs.along.Reads as along-reads
+use Rattle.coords.proofs.turn_of.Reads as turn-of-reads
+
+turn-of-requires : tie.Need-turn-of-requires
+turn-of-requires c κs = search needs
+
+turn-of-requires-2 : tie.Need-turn-of-requires-2
+turn-of-requires-2 c κs = search needs
+
+along-requires : tie.Need-along-requires
+along-requires c κs = search needs
+
+returns : tie.Need-returns
+unfolding cartesianOf
+returns c = cc
+
+pub spherical-to-cartesian-spec : {M : Type 1} → statement M
+spherical-to-cartesian-spec =
+    tie.close (tie.spec turn-of-requires turn-of-requires-2 along-requires returns)

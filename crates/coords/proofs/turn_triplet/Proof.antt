@@ -1,0 +1,32 @@
+use Rattle.coords.specs.Arrays.{turned, laid}
+use mathlib.Core.Path.{_≡_, refl, sym, ap, _∙_}
+use Rattle.coords.specs.Arrays.{turned}
+use borrow.Author.Tests.{eq-eqb, ne-eqb}
+use Rattle.points.specs.declared.Point3.{Point3}
+use Rattle.coords.specs.declared.Spherical.{Spherical}
+use borrow.Author.Needs.{needs}
+use Rattle.coords.proofs.turn_triplet.Statement.{statement}
+use Rattle.coords.proofs.turn_triplet.Tie as tie
+use Rattle.coords.proofs.turn_triplet.Reads as reads
+use Rattle.coords.proofs.turn_triplet.Lts as lts
+use Rattle.coords.proofs.cartesian_to_spherical.Reads as cartesian-to-spherical-reads
+use Rattle.coords.proofs.spherical_to_cartesian.Reads as spherical-to-cartesian-reads
+
+cartesian-to-spherical-requires : tie.Need-cartesian-to-spherical-requires
+cartesian-to-spherical-requires c κs = search needs
+
+spherical-to-cartesian-requires : tie.Need-spherical-to-cartesian-requires
+spherical-to-cartesian-requires c κs = search needs
+
+returns : tie.Need-returns
+unfolding turned
+returns c = rw (c .before .match .keys1) (ap laid (c .cartesian-to-spherical .ensures))
+
+returns-2 : tie.Need-returns-2
+unfolding turned
+returns-2 c = simp (ne-eqb _ 0 (c .before .match .rest .1)) (c .spherical-to-cartesian .ensures)
+
+pub turn-triplet-spec : {M : Type 1} → statement M
+turn-triplet-spec =
+    tie.close
+    (tie.spec cartesian-to-spherical-requires spherical-to-cartesian-requires returns returns-2)

@@ -1,0 +1,60 @@
+-- The ends of the ranges: 0.1 and 0.001 as bit patterns, and that a value between two finite ends is finite. Assumes nothing.
+use mathlib.Core.Path.{_≡_, refl}
+use mathlib.Core.Bool.{true, false}
+use lib.Dec.{T}
+use lib.Ieee.{Float, nan, inf, fin, binary32, round, ofBits, neg, le, lt, eq}
+use lib.Ieee.Scale.{finite}
+use Rattle.floats.proofs.Cross.{of-taken}
+use Rattle.floats.proofs.Preorder.{le-nan}
+use Rattle.limits.specs.Allowed.{nearest, between, within, cartesianOk, angleOk, radiusOk, angleStepOk, radiusStepOk, rateOk}
+use Rattle.limits.proofs.Lines.{and-left, and-right}
+
+pub tenth : nearest 1 10 ≡ ofBits binary32 0x3dcccccd
+unfolding round ofBits
+tenth = refl
+
+pub thousandth : nearest 1 1000 ≡ ofBits binary32 0x3a83126f
+unfolding round ofBits
+thousandth = refl
+
+pub between-low : (lo hi x : Float) → between lo hi x ≡ true → T (le lo x)
+unfolding between
+between-low lo hi x e = of-taken (and-left (le lo x) (le x hi) e)
+
+pub between-high : (lo hi x : Float) → between lo hi x ≡ true → T (le x hi)
+unfolding between
+between-high lo hi x e = of-taken (and-right (le lo x) (le x hi) e)
+
+squeezed : (lo hi x : Float) → T (finite lo) → T (finite hi) → T (le lo x) → T (le x hi) → T (finite x)
+unfolding le lt eq
+squeezed lo hi nan a b l h = absurd (le-nan lo l)
+squeezed lo (fin t n d) (inf false) a b l h = h
+squeezed (fin s m e) hi (inf true) a b l h = l
+squeezed lo hi (fin s m e) a b l h = tt
+
+pub between-finite : (lo hi x : Float) → T (finite lo) → T (finite hi) → between lo hi x ≡ true → T (finite x)
+between-finite lo hi x a b e = squeezed lo hi x a b (between-low lo hi x e) (between-high lo hi x e)
+
+pub cartesian-finite : (x : Float) → cartesianOk x ≡ true → T (finite x)
+unfolding cartesianOk within round neg
+cartesian-finite x e = between-finite (neg (nearest 10000 1)) (nearest 10000 1) x tt tt e
+
+pub angle-finite : (x : Float) → angleOk x ≡ true → T (finite x)
+unfolding angleOk within round neg
+angle-finite x e = between-finite (neg (nearest 720 1)) (nearest 720 1) x tt tt e
+
+pub radius-finite : (x : Float) → radiusOk x ≡ true → T (finite x)
+unfolding radiusOk round
+radius-finite x e = between-finite (nearest 0 1) (nearest 10000 1) x tt tt e
+
+pub angle-step-finite : (x : Float) → angleStepOk x ≡ true → T (finite x)
+unfolding angleStepOk round
+angle-step-finite x e = between-finite (nearest 1 10) (nearest 45 1) x tt tt e
+
+pub radius-step-finite : (x : Float) → radiusStepOk x ≡ true → T (finite x)
+unfolding radiusStepOk round
+radius-step-finite x e = between-finite (nearest 1 1000) (nearest 1 1) x tt tt e
+
+pub rate-finite : (x : Float) → rateOk x ≡ true → T (finite x)
+unfolding rateOk round
+rate-finite x e = between-finite (nearest 1000 1) (nearest 384000 1) x tt tt e

@@ -1,0 +1,17 @@
+use Rattle.limits.specs.Allowed.{blendFits}
+use borrow.Author.Needs.{needs}
+use Rattle.limits.proofs.blend_fits.Statement.{statement}
+use Rattle.limits.proofs.blend_fits.Tie as tie
+
+plain-fits-requires : tie.Need-plain-fits-requires
+plain-fits-requires c κs = search needs
+
+neighbours-fit-requires : tie.Need-neighbours-fit-requires
+neighbours-fit-requires c κs = search needs
+
+returns : tie.Need-returns
+unfolding blendFits
+returns c = cc
+
+pub blend-fits-spec : {M : Type 1} → statement M
+blend-fits-spec = tie.close (tie.spec plain-fits-requires neighbours-fit-requires returns)

@@ -1,0 +1,68 @@
+-- What loops and callers cite of `over` and `upto`. Assumes nothing.
+use mathlib.Core.Path.{_≡_, refl, sym, ap, _∙_}
+use mathlib.Core.List.{List, [], _∷_, _++_}
+use Prim.Native.Nat.{ℕ, zero, suc, _+_, _≤_, _<_}
+use native.Mathlib.Nat.{le-of-lt}
+use native.Mathlib.Numerals.{add-one}
+use native.Mathlib.Omega.{arith}
+use lib.ListN.{length, take, drop, getD, set, replicate, length-append, length-drop, length-replicate}
+use lib.Seq.{take-suc, drop-cons, take-at, drop-at, set-at, length-take-le, append-snoc}
+use Rattle.lists.specs.Over.{over, upto}
+
+module _ {A : Type 0} where
+  pub over-nil : (d : List A) → over [] d ≡ d
+  unfolding over
+  over-nil d = refl
+
+  pub length-over : (xs d : List A) → length xs ≤ length d → length (over xs d) ≡ length d
+  unfolding over
+  length-over xs d h = simp (length-append, length-drop) (omega arith)
+
+  pub take-over : (xs d : List A) → take (length xs) (over xs d) ≡ xs
+  unfolding over
+  take-over xs d = take-at xs (drop (length xs) d) (length xs) refl
+
+  pub drop-over : (xs d : List A) → drop (length xs) (over xs d) ≡ drop (length xs) d
+  unfolding over
+  drop-over xs d = drop-at xs (drop (length xs) d) (length xs) refl
+
+  -- one store past the replaced part makes it one longer
+  pub over-more : (xs d : List A) (a : A) → length xs < length d → set (over xs d) (length xs) a ≡ over (xs ++ (a ∷ [])) d
+  unfolding over
+  over-more xs d a h =
+      rw (drop-cons d (length xs) a)
+      (set-at xs (getD d (length xs) a) (drop (suc (length xs)) d) a (length xs) refl
+      ∙ sym (append-snoc xs a (drop (suc (length xs)) d))
+      ∙ ap (λ (k : ℕ). (xs ++ (a ∷ [])) ++ drop k d) (sym (length-append xs (a ∷ []) ∙ add-one (length xs))))
+
+  -- the same where the replaced part is known to be n long
+  pub over-at : (xs d : List A) (n : ℕ) (a : A) → length xs ≡ n → n < length d → set (over xs d) n a ≡ over (xs ++ (a ∷ [])) d
+  over-at xs d n a e h = rw (← e) (over-more xs d a (omega arith))
+
+  -- a turn of a copy
+  pub copy-more : (s d : List A) (i : ℕ) (z : A) → i < length s → i < length d → set (over (take i s) d) i (getD s i z) ≡ over (take (i + 1) s) d
+  copy-more s d i z hs hd =
+      over-at (take i s) d i (getD s i z) (length-take-le i s (le-of-lt hs)) hd
+      ∙ ap (λ (l : List A). over l d) (sym (ap (λ (k : ℕ). take k s) (add-one i) ∙ take-suc s i z hs))
+
+  replicate-snoc : (n : ℕ) (v : A) → replicate n v ++ (v ∷ []) ≡ replicate (suc n) v
+  replicate-snoc zero v = refl
+  replicate-snoc (suc n) v = ap (λ (l : List A). v ∷ l) (replicate-snoc n v)
+
+  -- a turn of a fill
+  pub fill-more : (n : ℕ) (v : A) (d : List A) → n < length d → set (over (replicate n v) d) n v ≡ over (replicate (n + 1) v) d
+  fill-more n v d h =
+      over-at (replicate n v) d n v (length-replicate n v) h
+      ∙ ap (λ (l : List A). over l d) (replicate-snoc n v ∙ ap (λ (k : ℕ). replicate k v) (sym (add-one n)))
+
+  pub length-upto : (f : ℕ → A) (n : ℕ) → length (upto f n) ≡ n
+  unfolding upto
+  length-upto f zero = refl
+  length-upto f (suc n) = length-append (upto f n) (f n ∷ []) ∙ add-one (length (upto f n)) ∙ ap suc (length-upto f n)
+
+  -- a turn of any loop that stores f i at i
+  pub upto-more : (f : ℕ → A) (n : ℕ) (d : List A) → n < length d → set (over (upto f n) d) n (f n) ≡ over (upto f (n + 1)) d
+  unfolding upto
+  upto-more f n d h =
+      over-at (upto f n) d n (f n) (length-upto f n) h
+      ∙ ap (λ (l : List A). over l d) (ap (λ (k : ℕ). upto f k) (sym (add-one n)))

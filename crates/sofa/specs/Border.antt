@@ -1,0 +1,12 @@
+-- What crosses the C border: document 01's number and values for each case of an answer. Definitions only.
+use mathlib.Core.Bool.{false}
+use lib.IntN.{pos}
+use lib.Ieee.{fin}
+use Rattle.angles.specs.declared.Answer.{Answer}
+use Rattle.angles.specs.declared.Answer.the-variants.{Value, Refused}
+use Rattle.sofa.specs.declared.SofaValue.{SofaValue}
+
+-- a value has reason 0 and place 0; a refusal has its number and place, and +0 for a value
+abbrev pub valueOf : Answer → SofaValue
+valueOf (Value v) = record { reason = 0; place = 0; value = v }
+valueOf (Refused n p) = record { reason = n; place = p; value = fin false 0 (pos 0) }
