@@ -1,1 +1,3 @@
 pub mod Triplets
+pub mod Roots
+pub mod Places

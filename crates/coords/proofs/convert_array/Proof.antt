@@ -3,10 +3,6 @@ use denote.Ref.{now}
 use borrow.Author.Needs.{needs}
 use Rattle.coords.proofs.convert_array.Statement.{statement}
 use Rattle.coords.proofs.convert_array.Tie as tie
-use Rattle.coords.proofs.convert_array.Reads as reads
-use Rattle.coords.proofs.convert_array.Lts as lts
-use Rattle.coords.proofs.convert_triplets.Reads as convert-triplets-reads
-use Rattle.limits.proofs.judge_values.Reads as judge-values-reads
 
 judge-values-requires : tie.Need-judge-values-requires
 judge-values-requires c κs = search needs
@@ -21,7 +17,7 @@ same-length : tie.Need-same-length
 same-length c = search needs
 
 returns : tie.Need-returns
-returns c = 
+returns c =
     let j = c .before .before in
     let a = j .before .before .before .args in
     stays (a .kind) (now (a .values)) (j .judge-values .result) (j .judge-values .ensures) _ _ (c .enum-told2 .given .1)
@@ -33,7 +29,7 @@ same-length-2 : tie.Need-same-length-2
 same-length-2 c = search needs
 
 returns-2 : tie.Need-returns-2
-returns-2 c = 
+returns-2 c =
     let d = c .before .before in
     let t = d .before .before in
     let j = t .before .before in
