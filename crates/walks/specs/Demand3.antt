@@ -8,7 +8,6 @@ use Prim.Native.Nat.{ℕ, suc, _*_, _≤_}
 use lib.ListN.{length, getD}
 use lib.Dec.{T}
 use lib.Ieee.{Float, nan, lt}
-use lib.Ieee.Scale.{finite}
 use Rattle.points.specs.declared.Point3.{Point3}
 use Rattle.points.specs.Points.{pointAt, distSq}
 use Rattle.kdtree.specs.declared.BoundingBox.{BoundingBox}
@@ -38,11 +37,6 @@ Nearer q a b = T (lt (distTo q a) (distTo q b))
 
 abbrev pub NotNearer : Point3 → Numbered → Numbered → Type 0
 NotNearer q a b = T (not (lt (distTo q a) (distTo q b)))
-
-pub record Finite (p : Point3) : Type 0 where
-  pub x : T (finite (p .x))
-  pub y : T (finite (p .y))
-  pub z : T (finite (p .z))
 
 pub record SomeNan (p : Point3) : Type 0 where
   pub which : (p .x ≡ nan) ⊎ ((p .y ≡ nan) ⊎ (p .z ≡ nan))
