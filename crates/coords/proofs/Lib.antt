@@ -1,3 +1,3 @@
 pub mod Triplets
-pub mod Roots
+pub mod Radii
 pub mod Places

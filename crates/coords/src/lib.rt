@@ -5,7 +5,7 @@
 // specs/Arrays.antt says what a list holds after a conversion. `turn_of` and `along` are the halves of
 // `spherical_to_cartesian`: a search that keeps one angle works out its sine and cosine once.
 //
-// proofs/Roots.antt: the radius of a finite point is a number and not negative. proofs/Places.antt:
+// proofs/Radii.antt: the radius of a finite point is a number and not negative. proofs/Places.antt:
 // a converted list, place by place. The crate `coord_laws`: a converted position whose radius was
 // allowed has coordinates of magnitude at most 10001.
 use limits::Verdict;
