@@ -5,16 +5,17 @@ use mathlib.Core.Bool.{Bool, true, false, cond, _&&_}
 use mathlib.Core.List.{List, [], _∷_, _++_, map}
 use native.Mathlib.Nat.{mul-le-mul-right, suc-mul, mul-le-mul}
 use native.Mathlib.Omega.{arith}
-use lib.Dec.{eqb, ltb}
+use lib.Dec.{leb, eqb, ltb}
 use lib.ListN.{length, take, replicate}
 use lib.Ieee.{Float}
-use borrow.Author.Tests.{eq-eqb, ne-eqb, ltb-true, le-leb, lt-leb}
+use borrow.Author.Tests.{eqb-true, leb-true, eq-eqb, ne-eqb, ltb-true, le-leb, lt-leb}
 use Rattle.points.specs.declared.Point3.{Point3}
 use Rattle.floats.specs.Floats.{zero32}
 use Rattle.mix.specs.declared.Share.{Share}
 use Rattle.mix.specs.declared.Points.{Points}
 use Rattle.mix.specs.Mix.{listOf, sums, tailed}
-use Rattle.interpolate.specs.Blend.{absent, known, allKnown, closer, nothing, shareOf, taken, pairOf, largest32, tiny32, byCount, close32, neighborsOf, distanceOf, pointsOf, Filter, extractOf, blendOf, refusedOf, weighedOf, interpolateOf, pick, totalOf, part}
+use Rattle.interpolate.specs.declared.Stride.{Stride}
+use Rattle.interpolate.specs.Blend.{delayAt, plainDelay, blendDelay, at, nowhere, strideOf, absent, known, allKnown, closer, nothing, shareOf, taken, pairOf, largest32, tiny32, close32, neighborsOf, distanceOf, pointsOf, Filter, extractOf, blendOf, refusedOf, weighedOf, interpolateOf, pick, totalOf, part}
 use Rattle.interpolate.specs.declared.Closest.{Closest}
 use Rattle.interpolate.specs.declared.Neighbors.{Neighbors}
 use lib.Ieee.{lt, ofBits}
@@ -174,28 +175,58 @@ neighbors-known m s h =
         (and-left a b h2, and-right a b h2, and-right (a && b) c h3, and-right (a && b && c) d h4, and-right (a && b && c && d) e h5, and-right (a && b && c && d && e) f h)
 
 -- ---- delays
-module _ (f : ℕ → ℕ → Float) (len m r e : ℕ) where
-  pub by-one : len ≡ m → record { 0 = f 1 0 } ≡ byCount f len m r e
-  unfolding byCount
+module _ (len m r e : ℕ) where
+  pub by-one : len ≡ m → at 1 0 ≡ strideOf len m r e
+  unfolding strideOf
   by-one h = rw (eq-eqb len m h)
 
-  pub by-each : (len ≡ m → ⊥) → m * r ≤ len → record { 0 = f r e } ≡ byCount f len m r e
-  unfolding byCount
+  pub by-each : (len ≡ m → ⊥) → m * r ≤ len → at r e ≡ strideOf len m r e
+  unfolding strideOf
   by-each g h = rw (ne-eqb len m g, le-leb (m * r) len h)
 
-  pub by-two : (len ≡ m → ⊥) → len < m * r → r ≤ len → record { 0 = f 0 e } ≡ byCount f len m r e
-  unfolding byCount
+  pub by-two : (len ≡ m → ⊥) → len < m * r → r ≤ len → at 0 e ≡ strideOf len m r e
+  unfolding strideOf
   by-two g h i = rw (ne-eqb len m g, lt-leb (m * r) len h, le-leb r len i)
 
-  pub by-none : (len ≡ m → ⊥) → len < m * r → len < r → record { 0 = zero32 } ≡ byCount f len m r e
-  unfolding byCount
+  pub by-none : (len ≡ m → ⊥) → len < m * r → len < r → nowhere ≡ strideOf len m r e
+  unfolding strideOf
   by-none g h i = rw (ne-eqb len m g, lt-leb (m * r) len h, lt-leb r len i)
 
-pub times : (k r m : ℕ) → k ≤ m → m ≤ 16384 → r ≤ 8 → k * r ≤ 131072
-times k r m hk hm hr = mul-le-mul {n₂ = 16384} {m₂ = 8} (omega arith) hr
+  -- a measurement's delay lies inside the list
+  pub stride-in : (k : ℕ) (s : Stride) → s ≡ strideOf len m r e → k < m → 2 ≤ r → e ≤ 1 → s .some ≡ true → k * s .times + s .plus < len
+  unfolding strideOf
+  stride-in k s q hk hr he h = rw q (go (eqb len m) (leb (m * r) len) (leb r len) refl refl refl (rw q at h))
+    where
+      each : m * r ≤ len → k * r + e < len
+      each g = omega (arith, suc-mul k r, mul-le-mul-right r hk)
 
-pub within : (k m r e len : ℕ) → k < m → 2 ≤ r → e ≤ 1 → m * r ≤ len → k * r + e < len
-within k m r e len hk hr he hl = omega (arith, suc-mul k r, mul-le-mul-right r hk)
+      go : (a b c : Bool) → eqb len m ≡ a → leb (m * r) len ≡ b → leb r len ≡ c → cond a (at 1 0) (cond b (at r e) (cond c (at 0 e) nowhere)) .some ≡ true
+          → k * cond a (at 1 0) (cond b (at r e) (cond c (at 0 e) nowhere)) .times + cond a (at 1 0) (cond b (at r e) (cond c (at 0 e) nowhere)) .plus < len
+      go true b c ea eb ec t = omega (arith, eqb-true len m ea)
+      go false true c ea eb ec t = each (leb-true (m * r) len eb)
+      go false false true ea eb ec t = omega (arith, leb-true r len ec)
+      go false false false ea eb ec t = let z : _≡_ {A = ℕ} 0 1 = cc in absurd (omega arith)
+
+-- a delay where there are some, and where there are none
+module _ (delays : List Float) (m r e : ℕ) (s : Stride) (q : s ≡ strideOf (length delays) m r e) where
+  pub plain-some : (k : ℕ) → s .some ≡ true → record { 0 = delayAt delays s k } ≡ plainDelay delays m r e k
+  unfolding plainDelay
+  plain-some k h = rw (← q, h)
+
+  pub plain-none : (k : ℕ) → s .some ≡ false → record { 0 = zero32 } ≡ plainDelay delays m r e k
+  unfolding plainDelay
+  plain-none k h = rw (← q, h)
+
+  pub blend-some : (ps : List Share) (x : Float) → x ≡ sums (delayAt delays s) zero32 ps → s .some ≡ true → record { 0 = x } ≡ blendDelay delays m r e ps
+  unfolding blendDelay
+  blend-some ps x t h = rw (← q, h, t)
+
+  pub blend-none : (ps : List Share) → s .some ≡ false → record { 0 = zero32 } ≡ blendDelay delays m r e ps
+  unfolding blendDelay
+  blend-none ps h = rw (← q, h)
+
+pub times : (m r : ℕ) → m ≤ 16384 → r ≤ 8 → m * r ≤ 131072
+times m r hm hr = mul-le-mul {n₂ = 16384} {m₂ = 8} hm hr
 
 -- ---- the four ways through
 module _ (m r n : ℕ) (resp delays : List Float) (rate : Float) (ll rl : ℕ) (cart : List Float) (near : List ℕ) (q : Point3) (k : ℕ) where

@@ -18,6 +18,7 @@ use Rattle.mix.specs.declared.Share.{Share}
 use Rattle.mix.specs.Mix.{sums, tapOf, sampleOf, outOf}
 use Rattle.interpolate.specs.declared.Closest.{Closest}
 use Rattle.interpolate.specs.declared.Neighbors.{Neighbors}
+use Rattle.interpolate.specs.declared.Stride.{Stride}
 
 -- the f32 nearest to 1e-6 and to 1e-10, and the largest f32
 abbrev pub close32 : Float
@@ -88,20 +89,26 @@ abbrev pub part : Float → Share → Share
 part s p = record { number = p .number; weight = div binary32 (p .weight) s }
 
 -- ---- delays, in samples, for receiver e
--- measurement k's, where it stands at k * times + plus
-abbrev pub delayAt : List Float → ℕ → ℕ → ℕ → Float
-delayAt delays times plus k = getD delays (k * times + plus) nan
+-- where measurement k's stands: at k * times + plus, or nowhere
+abbrev pub at : ℕ → ℕ → Stride
+at times plus = record { some = true; times = times; plus = plus }
+
+abbrev pub nowhere : Stride
+nowhere = record { some = false; times = 0; plus = 0 }
 
 -- "by their count L: L = M, one per measurement for both ears; else L ≥ M·R, per measurement and receiver; else L ≥ R, first two for all; else 0"
-unfoldable pub byCount : (ℕ → ℕ → Float) → ℕ → ℕ → ℕ → ℕ → Samples
-byCount f len m r e = record { 0 = cond (eqb len m) (f 1 0) (cond (leb (m * r) len) (f r e) (cond (leb r len) (f 0 e) zero32)) }
+unfoldable pub strideOf : ℕ → ℕ → ℕ → ℕ → Stride
+strideOf len m r e = cond (eqb len m) (at 1 0) (cond (leb (m * r) len) (at r e) (cond (leb r len) (at 0 e) nowhere))
+
+abbrev pub delayAt : List Float → Stride → ℕ → Float
+delayAt delays s k = getD delays (k * s .times + s .plus) nan
 
 -- measurement k's, and that of weighed points
 unfoldable pub plainDelay : List Float → ℕ → ℕ → ℕ → ℕ → Samples
-plainDelay delays m r e k = byCount (λ times plus. delayAt delays times plus k) (length delays) m r e
+plainDelay delays m r e k = let s = strideOf (length delays) m r e in record { 0 = cond (s .some) (delayAt delays s k) zero32 }
 
 unfoldable pub blendDelay : List Float → ℕ → ℕ → ℕ → List Share → Samples
-blendDelay delays m r e ps = byCount (λ times plus. sums (delayAt delays times plus) zero32 ps) (length delays) m r e
+blendDelay delays m r e ps = let s = strideOf (length delays) m r e in record { 0 = cond (s .some) (sums (delayAt delays s) zero32 ps) zero32 }
 
 -- ---- what a filter query answers and what its two outputs then hold
 pub record Filter : Type 0 where

@@ -11,7 +11,7 @@ ghost use Prim.Native.Nat.{ℕ, _+_, _*_, _≤_, _<_};
 ghost use lib.ListN.{length};
 ghost use Rattle.floats.specs.Floats.{zero32};
 ghost use Rattle.mix.specs.Mix.{sums, listOf, Sized, Placed};
-ghost use Rattle.interpolate.specs.Blend.{distanceOf, closer, neighborsOf, pairOf, pointsOf, allKnown, totalOf, part, delayAt, plainDelay, blendDelay, filterOf, extractOf, blendOf, refusedOf, interpolateOf};
+ghost use Rattle.interpolate.specs.Blend.{distanceOf, closer, neighborsOf, pairOf, pointsOf, allKnown, totalOf, part, strideOf, delayAt, plainDelay, blendDelay, filterOf, extractOf, blendOf, refusedOf, interpolateOf};
 ghost use Rattle.interpolate.specs.Blend as Blend;
 use delays::Outcome;
 use delays::Samples;
@@ -33,6 +33,13 @@ pub struct Neighbors {
     pub theta_minus: usize,
     pub radius_plus: usize,
     pub radius_minus: usize,
+}
+
+// Where the delay of measurement k stands: at k * times + plus, if there are any.
+pub struct Stride {
+    pub some: bool,
+    pub times: usize,
+    pub plus: usize,
 }
 
 // How far measurement k is from the query.
@@ -60,17 +67,17 @@ fn known(m: usize, k: usize) -> bool
 }
 
 // The six entries of measurement k.
-fn entries(neighbors: &[u16], k: usize) -> Neighbors
-    requires { ⌜ 6 * k + 6 ≤ length (now neighbors) ⌝ }
-    ensures { λ r. ⌜ r ≡ neighborsOf (now (neighbors .entry)) k ⌝ }
+fn entries(neighbours: &[u16], k: usize) -> Neighbors
+    requires { ⌜ 6 * k + 6 ≤ length (now neighbours) ⌝ }
+    ensures { λ r. ⌜ r ≡ neighborsOf (now (neighbours .entry)) k ⌝ }
 {
     Neighbors {
-        phi_plus: wide(neighbors[6 * k + 0]),
-        phi_minus: wide(neighbors[6 * k + 1]),
-        theta_plus: wide(neighbors[6 * k + 2]),
-        theta_minus: wide(neighbors[6 * k + 3]),
-        radius_plus: wide(neighbors[6 * k + 4]),
-        radius_minus: wide(neighbors[6 * k + 5]),
+        phi_plus: wide(neighbours[6 * k + 0]),
+        phi_minus: wide(neighbours[6 * k + 1]),
+        theta_plus: wide(neighbours[6 * k + 2]),
+        theta_minus: wide(neighbours[6 * k + 3]),
+        radius_plus: wide(neighbours[6 * k + 4]),
+        radius_minus: wide(neighbours[6 * k + 5]),
     }
 }
 
@@ -235,13 +242,60 @@ fn divided(p: Points, sum: f32) -> Points
     }
 }
 
-// The delays of one to four points, weighed; measurement k's stands at k * times + plus.
-fn weighed(delays: &[f32], p: Points, times: usize, plus: usize) -> f32
-    requires { ⌜ (1 ≤ p .count) × (p .count ≤ 4)
-        × (p .a .number * times + plus < length (now delays)) × (p .b .number * times + plus < length (now delays))
-        × (p .c .number * times + plus < length (now delays)) × (p .d .number * times + plus < length (now delays)) ⌝ }
-    ensures { λ r. ⌜ r ≡ sums (delayAt (now (delays .entry)) times plus) zero32 (listOf p) ⌝ }
+// By the count of the delays: one per measurement for both ears; per measurement and receiver; the first two for all; none.
+fn stride_of(len: usize, m: usize, r: usize, e: usize) -> Stride
+    requires { ⌜ (m ≤ 16384) × (r ≤ 8) ⌝ }
+    ensures { λ s. ⌜ s ≡ strideOf len m r e ⌝ }
 {
+    if len == m {
+        return Stride {
+            some: true,
+            times: 1,
+            plus: 0,
+        };
+    }
+    if m * r <= len {
+        return Stride {
+            some: true,
+            times: r,
+            plus: e,
+        };
+    }
+    if r <= len {
+        return Stride {
+            some: true,
+            times: 0,
+            plus: e,
+        };
+    }
+    Stride {
+        some: false,
+        times: 0,
+        plus: 0,
+    }
+}
+
+// A measurement's delay for receiver e.
+pub fn plain_delay(delays: &[f32], k: usize, m: usize, r: usize, e: usize) -> Samples
+    requires { ⌜ (k < m) × (m ≤ 16384) × (2 ≤ r) × (r ≤ 8) × (e ≤ 1) ⌝ }
+    ensures { λ s. ⌜ s ≡ plainDelay (now (delays .entry)) m r e k ⌝ }
+{
+    let s = stride_of(delays.len(), m, r, e);
+    if s.some {
+        return Samples(delays[k * s.times + s.plus]);
+    }
+    Samples(0.0)
+}
+
+// The delays of one to four points, weighed and added up.
+fn weighed(delays: &[f32], p: Points, s: Stride) -> f32
+    requires { ⌜ (1 ≤ p .count) × (p .count ≤ 4)
+        × (p .a .number * s .times + s .plus < length (now delays)) × (p .b .number * s .times + s .plus < length (now delays))
+        × (p .c .number * s .times + s .plus < length (now delays)) × (p .d .number * s .times + s .plus < length (now delays)) ⌝ }
+    ensures { λ r. ⌜ r ≡ sums (delayAt (now (delays .entry)) s) zero32 (listOf p) ⌝ }
+{
+    let times = s.times;
+    let plus = s.plus;
     let a = 0.0 + delays[p.a.number * times + plus] * p.a.weight;
     let b = a + delays[p.b.number * times + plus] * p.b.weight;
     let c = b + delays[p.c.number * times + plus] * p.c.weight;
@@ -255,38 +309,14 @@ fn weighed(delays: &[f32], p: Points, times: usize, plus: usize) -> f32
     }
 }
 
-// A blended delay by the count of the delays.
+// The blended delay for receiver e. Where there are no delays nothing is added, so that it is +0 whatever the weights are.
 fn blend_delay(delays: &[f32], p: Points, m: usize, r: usize, e: usize) -> Samples
     requires { ⌜ Placed m p × (m ≤ 16384) × (2 ≤ r) × (r ≤ 8) × (e ≤ 1) ⌝ }
     ensures { λ s. ⌜ s ≡ blendDelay (now (delays .entry)) m r e (listOf p) ⌝ }
 {
-    let len = delays.len();
-    if len == m {
-        return Samples(weighed(delays, p, 1, 0));
-    }
-    if m * r <= len {
-        return Samples(weighed(delays, p, r, e));
-    }
-    if r <= len {
-        return Samples(weighed(delays, p, 0, e));
-    }
-    Samples(0.0)
-}
-
-// A measurement's delay by the count of the delays.
-pub fn plain_delay(delays: &[f32], k: usize, m: usize, r: usize, e: usize) -> Samples
-    requires { ⌜ (k < m) × (m ≤ 16384) × (2 ≤ r) × (r ≤ 8) × (e ≤ 1) ⌝ }
-    ensures { λ s. ⌜ s ≡ plainDelay (now (delays .entry)) m r e k ⌝ }
-{
-    let len = delays.len();
-    if len == m {
-        return Samples(delays[k * 1 + 0]);
-    }
-    if m * r <= len {
-        return Samples(delays[k * r + e]);
-    }
-    if r <= len {
-        return Samples(delays[k * 0 + e]);
+    let s = stride_of(delays.len(), m, r, e);
+    if s.some {
+        return Samples(weighed(delays, p, s));
     }
     Samples(0.0)
 }
@@ -353,7 +383,7 @@ pub fn refuse(number: u32, place: usize, left: &mut [f32], right: &mut [f32]) ->
 // The filter at a query whose nearest measurement is given. A neighbour entry that is neither absent nor a measurement refuses 9.
 pub fn interpolate(
     cartesian: &[f32],
-    neighbors: &[u16],
+    neighbours: &[u16],
     responses: &[f32],
     delays: &[f32],
     rate: f32,
@@ -365,16 +395,16 @@ pub fn interpolate(
     left: &mut [f32],
     right: &mut [f32],
 ) -> Outcome
-    requires { ⌜ Sized m r n × (nearest < m) × (3 * m ≤ length (now cartesian)) × (6 * m ≤ length (now neighbors)) × (m * r * n ≤ length (now responses)) ⌝ }
+    requires { ⌜ Sized m r n × (nearest < m) × (3 * m ≤ length (now cartesian)) × (6 * m ≤ length (now neighbours)) × (m * r * n ≤ length (now responses)) ⌝ }
     ensures { λ o. ⌜ filterOf o (now (left .exit)) (now (right .exit))
         ≡ interpolateOf m r n (now (responses .entry)) (now (delays .entry)) rate (length (now (left .entry))) (length (now (right .entry)))
-        (now (cartesian .entry)) (now (neighbors .entry)) position nearest ⌝ }
+        (now (cartesian .entry)) (now (neighbours .entry)) position nearest ⌝ }
 {
     let d = distance(cartesian, nearest, position);
     if d < 1e-6 {
         return extract_filter(responses, delays, rate, m, r, n, nearest, left, right);
     }
-    let s = entries(neighbors, nearest);
+    let s = entries(neighbours, nearest);
     if all_known(m, s) {
         let p = gather(cartesian, position, m, nearest, d, s);
         let sum = total(p);

@@ -26,7 +26,7 @@ returns : tie.Need-returns
 returns c =
     let a = c .before .before .before .before .before .before .before .before .before .before .before .before .before .before .before .args in
     let d = c .before .before .before .before .before .before .before .before in
-    c .before .before .before .before .extract-filter .ensures ∙ way-close (a .m) (a .r) (a .n) (now (a .responses)) (now (a .delays)) (a .rate) (length (now (a .left))) (length (now (a .right))) (now (a .cartesian)) (now (a .neighbors)) (a .position) (a .nearest) (d .distance .result) (d .distance .ensures) (c .before .before .before .before .before .before .before .if1 .taken)
+    c .before .before .before .before .extract-filter .ensures ∙ way-close (a .m) (a .r) (a .n) (now (a .responses)) (now (a .delays)) (a .rate) (length (now (a .left))) (length (now (a .right))) (now (a .cartesian)) (now (a .neighbours)) (a .position) (a .nearest) (d .distance .result) (d .distance .ensures) (c .before .before .before .before .before .before .before .if1 .taken)
 
 entries-requires : tie.Need-entries-requires
 entries-requires c κs = search needs
@@ -62,7 +62,7 @@ returns-2 c =
     let g = c .before .before .before .before .before .before .before .before .before in
     let t = c .before .before .before .before .before .before .before .before in
     c .before .before .before .before .extract-filter2 .ensures
-    ∙ way-light (a .m) (a .r) (a .n) (now (a .responses)) (now (a .delays)) (a .rate) (length (now (a .left))) (length (now (a .right))) (now (a .cartesian)) (now (a .neighbors)) (a .position) (a .nearest) (d .distance .result) (e .entries .result) (listOf (g .gather .result)) (t .total .result) (d .distance .ensures) (c .before .before .before .before .before .before .before .before .before .before .before .before .before .if1 .left) (e .entries .ensures) (sym (w .all-known .ensures) ∙ c .before .before .before .before .before .before .before .before .before .before .if2 .taken) (g .gather .ensures .0) (t .total .ensures) (c .before .before .before .before .before .before .before .if3 .taken)
+    ∙ way-light (a .m) (a .r) (a .n) (now (a .responses)) (now (a .delays)) (a .rate) (length (now (a .left))) (length (now (a .right))) (now (a .cartesian)) (now (a .neighbours)) (a .position) (a .nearest) (d .distance .result) (e .entries .result) (listOf (g .gather .result)) (t .total .result) (d .distance .ensures) (c .before .before .before .before .before .before .before .before .before .before .before .before .before .if1 .left) (e .entries .ensures) (sym (w .all-known .ensures) ∙ c .before .before .before .before .before .before .before .before .before .before .if2 .taken) (g .gather .ensures .0) (t .total .ensures) (c .before .before .before .before .before .before .before .if3 .taken)
 
 divided-requires : tie.Need-divided-requires
 divided-requires c κs = search needs
@@ -88,7 +88,7 @@ returns-3 c =
     let t = c .before .before .before .before .before .before .before .before .before in
     let v = c .before .before .before .before .before .before .before in
     c .before .before .before .before .blend .ensures
-    ∙ way-mixed (a .m) (a .r) (a .n) (now (a .responses)) (now (a .delays)) (a .rate) (length (now (a .left))) (length (now (a .right))) (now (a .cartesian)) (now (a .neighbors)) (a .position) (a .nearest) (d .distance .result) (e .entries .result) (listOf (g .gather .result)) (t .total .result) (listOf (v .divided .result)) (d .distance .ensures) (c .before .before .before .before .before .before .before .before .before .before .before .before .before .before .if1 .left) (e .entries .ensures) (sym (w .all-known .ensures) ∙ c .before .before .before .before .before .before .before .before .before .before .before .if2 .taken) (g .gather .ensures .0) (t .total .ensures) (c .before .before .before .before .before .before .before .before .if3 .left) (v .divided .ensures .0)
+    ∙ way-mixed (a .m) (a .r) (a .n) (now (a .responses)) (now (a .delays)) (a .rate) (length (now (a .left))) (length (now (a .right))) (now (a .cartesian)) (now (a .neighbours)) (a .position) (a .nearest) (d .distance .result) (e .entries .result) (listOf (g .gather .result)) (t .total .result) (listOf (v .divided .result)) (d .distance .ensures) (c .before .before .before .before .before .before .before .before .before .before .before .before .before .before .if1 .left) (e .entries .ensures) (sym (w .all-known .ensures) ∙ c .before .before .before .before .before .before .before .before .before .before .before .if2 .taken) (g .gather .ensures .0) (t .total .ensures) (c .before .before .before .before .before .before .before .before .if3 .left) (v .divided .ensures .0)
 
 refuse-requires : tie.Need-refuse-requires
 refuse-requires c κs = search needs
@@ -106,7 +106,7 @@ returns-4 c =
     let e = c .before .before .before .before .before .before .before .before .before in
     let w = c .before .before .before .before .before .before .before .before in
     c .before .before .before .before .refuse .ensures
-    ∙ way-refused (a .m) (a .r) (a .n) (now (a .responses)) (now (a .delays)) (a .rate) (length (now (a .left))) (length (now (a .right))) (now (a .cartesian)) (now (a .neighbors)) (a .position) (a .nearest) (d .distance .result) (e .entries .result) (d .distance .ensures) (c .before .before .before .before .before .before .before .before .before .before .if1 .left) (e .entries .ensures) (sym (w .all-known .ensures) ∙ c .before .before .before .before .before .before .before .if2 .left)
+    ∙ way-refused (a .m) (a .r) (a .n) (now (a .responses)) (now (a .delays)) (a .rate) (length (now (a .left))) (length (now (a .right))) (now (a .cartesian)) (now (a .neighbours)) (a .position) (a .nearest) (d .distance .result) (e .entries .result) (d .distance .ensures) (c .before .before .before .before .before .before .before .before .before .before .if1 .left) (e .entries .ensures) (sym (w .all-known .ensures) ∙ c .before .before .before .before .before .before .before .if2 .left)
 
 pub interpolate-spec : {M : Type 1} → statement M
 interpolate-spec =

@@ -1,107 +1,47 @@
--- `interpolate::plain_delay` meets its contract: each test leads to its case of the rule. Assumes nothing.
-use Prim.Native.Nat.{ℕ, _*_, _≤_}
+-- `interpolate::plain_delay` meets its contract: what is read lies inside the list. Assumes nothing.
+use Prim.Native.Nat.{_+_, _*_, _<_}
 use native.Mathlib.Omega.{arith}
 use denote.Ref.{now}
 use lib.ListN.{length}
-use lib.Ieee.{Float, ofBits}
-use Rattle.interpolate.specs.Blend.{delayAt, plainDelay}
-use Rattle.interpolate.proofs.Laws.{by-one, by-each, by-two, by-none, times, within}
+use lib.Ieee.{ofBits}
+use Rattle.interpolate.proofs.Laws.{stride-in, plain-some, plain-none}
 use borrow.Author.Needs.{needs}
 use Rattle.interpolate.proofs.plain_delay.Statement.{statement}
 use Rattle.interpolate.proofs.plain_delay.Tie as tie
 
--- the delay, where it stands at k * times + plus
-abbrev own : tie.Start → ℕ → ℕ → Float
-own s times plus = delayAt (now (s .args .delays)) times plus (s .args .k)
+inside : (c : tie.Then1) → c .before .before .before .args .k * c .before .stride-of .result .times + c .before .stride-of .result .plus < length (now (c .before .before .before .args .delays))
+inside c =
+    let s = c .before .before .before in
+    let a = s .args in
+    stride-in (length (now (a .delays))) (a .m) (a .r) (a .e) (a .k) (c .before .stride-of .result) (c .before .stride-of .ensures) (s .pre .0) (s .pre .2) (s .pre .4) (c .if1 .taken)
 
-small : (s : tie.Start) → s .args .k * s .args .r ≤ 131072
-small s = times (s .args .k) (s .args .r) (s .args .m) (omega arith) (s .pre .1) (s .pre .3)
+stride-of-requires : tie.Need-stride-of-requires
+stride-of-requires c κs = search needs
 
-mul-t8 : tie.Need-mul-t8
-mul-t8 c = search needs
+mul-t9 : tie.Need-mul-t9
+mul-t9 c = omega (arith, inside (c .before))
 
-add-t9 : tie.Need-add-t9
-add-t9 c = search needs
+add-t10 : tie.Need-add-t10
+add-t10 c = omega (arith, inside (c .before .before))
 
-mul-t10 : tie.Need-mul-t10
-mul-t10 c = search needs
+mul-t11 : tie.Need-mul-t11
+mul-t11 c = omega (arith, inside (c .before .before))
 
-shared-slice-read-t12 : tie.Need-shared-slice-read-t12
-shared-slice-read-t12 c = search needs
+shared-slice-read-t13 : tie.Need-shared-slice-read-t13
+shared-slice-read-t13 c = inside (c .before .before .before)
 
 returns : tie.Need-returns
-unfolding plainDelay
 returns c =
-    let s = c .before .before in
-    by-one (own s) (length (now (s .args .delays))) (s .args .m) (s .args .r) (s .args .e) (c .before .if1 .taken)
-
-mul-if2 : tie.Need-mul-if2
-mul-if2 c =
-    let s = c .before in
-    omega (arith, times (s .args .m) (s .args .r) (s .args .m) (omega arith) (s .pre .1) (s .pre .3))
-
-mul-t14 : tie.Need-mul-t14
-mul-t14 c = omega (arith, small (c .before .before))
-
-add-t15 : tie.Need-add-t15
-add-t15 c = omega (arith, small (c .before .before))
-
-mul-t16 : tie.Need-mul-t16
-mul-t16 c = omega (arith, small (c .before .before))
-
-shared-slice-read-t18 : tie.Need-shared-slice-read-t18
-shared-slice-read-t18 c =
-    let s = c .before .before .before in
-    within (s .args .k) (s .args .m) (s .args .r) (s .args .e) (length (now (s .args .delays))) (s .pre .0) (s .pre .2) (s .pre .4) (c .before .if2 .taken)
+    let d = c .before .before .before .before in
+    let a = d .before .before .args in
+    plain-some (now (a .delays)) (a .m) (a .r) (a .e) (d .stride-of .result) (d .stride-of .ensures) (a .k) (c .before .before .before .if1 .taken)
 
 returns-2 : tie.Need-returns-2
-unfolding plainDelay
+unfolding ofBits
 returns-2 c =
-    let s = c .before .before .before in
-    by-each (own s) (length (now (s .args .delays))) (s .args .m) (s .args .r) (s .args .e) (c .before .before .if1 .left) (c .before .if2 .taken)
-
-mul-t19 : tie.Need-mul-t19
-mul-t19 c = search needs
-
-add-t20 : tie.Need-add-t20
-add-t20 c = search needs
-
-mul-t21 : tie.Need-mul-t21
-mul-t21 c = search needs
-
-shared-slice-read-t23 : tie.Need-shared-slice-read-t23
-shared-slice-read-t23 c = search needs
-
-returns-3 : tie.Need-returns-3
-unfolding plainDelay
-returns-3 c =
-    let s = c .before .before .before .before in
-    by-two (own s) (length (now (s .args .delays))) (s .args .m) (s .args .r) (s .args .e) (c .before .before .before .if1 .left) (c .before .before .if2 .left) (c .before .if3 .taken)
-
-returns-4 : tie.Need-returns-4
-unfolding plainDelay ofBits
-returns-4 c =
-    let s = c .before .before .before in
-    by-none (own s) (length (now (s .args .delays))) (s .args .m) (s .args .r) (s .args .e) (c .before .before .if1 .left) (c .before .if2 .left) (c .if3 .left)
+    let d = c .before in
+    let a = d .before .before .args in
+    plain-none (now (a .delays)) (a .m) (a .r) (a .e) (d .stride-of .result) (d .stride-of .ensures) (a .k) (c .if1 .left)
 
 pub plain-delay-spec : {M : Type 1} → statement M
-plain-delay-spec =
-    tie.close
-    (tie.spec
-    mul-t8
-    add-t9
-    mul-t10
-    shared-slice-read-t12
-    returns
-    mul-if2
-    mul-t14
-    add-t15
-    mul-t16
-    shared-slice-read-t18
-    returns-2
-    mul-t19
-    add-t20
-    mul-t21
-    shared-slice-read-t23
-    returns-3
-    returns-4)
+plain-delay-spec = tie.close (tie.spec stride-of-requires mul-t9 add-t10 mul-t11 shared-slice-read-t13 returns returns-2)

@@ -1,4 +1,4 @@
--- `interpolate::weighed` meets its contract. Assumes nothing.
+-- `interpolate::weighed` meets its contract: the sum of as many places as are counted. Assumes nothing.
 use mathlib.Core.Path.{_≡_}
 use native.Mathlib.Omega.{arith}
 use denote.Ref.{now}
@@ -62,19 +62,19 @@ returns : tie.Need-returns
 unfolding sums ofBits
 returns c =
     let a = c .before .before .before .before .before .before .before .before .before .before .before .before .before .args in
-    sums-at (a .p) (delayAt (now (a .delays)) (a .times) (a .plus)) 1 (c .match .keys1)
+    sums-at (a .p) (delayAt (now (a .delays)) (a .s)) 1 (c .match .keys1)
 
 returns-2 : tie.Need-returns-2
 unfolding sums ofBits
 returns-2 c =
     let a = c .before .before .before .before .before .before .before .before .before .before .before .before .before .args in
-    sums-at (a .p) (delayAt (now (a .delays)) (a .times) (a .plus)) 2 (c .match .keys2)
+    sums-at (a .p) (delayAt (now (a .delays)) (a .s)) 2 (c .match .keys2)
 
 returns-3 : tie.Need-returns-3
 unfolding sums ofBits
 returns-3 c =
     let a = c .before .before .before .before .before .before .before .before .before .before .before .before .before .args in
-    sums-at (a .p) (delayAt (now (a .delays)) (a .times) (a .plus)) 3 (c .match .keys3)
+    sums-at (a .p) (delayAt (now (a .delays)) (a .s)) 3 (c .match .keys3)
 
 returns-4 : tie.Need-returns-4
 unfolding sums ofBits
@@ -82,7 +82,7 @@ returns-4 c =
     let s = c .before .before .before .before .before .before .before .before .before .before .before .before .before in
     let a = s .args in
     let e : a .p .count ≡ 4 = omega (arith, c .match .rest, s .pre .0, s .pre .1) in
-    sums-at (a .p) (delayAt (now (a .delays)) (a .times) (a .plus)) 4 e
+    sums-at (a .p) (delayAt (now (a .delays)) (a .s)) 4 e
 
 pub weighed-spec : {M : Type 1} → statement M
 weighed-spec =
