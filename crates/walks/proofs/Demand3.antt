@@ -25,7 +25,8 @@ use Rattle.kdtree.specs.Insert.{Lists, Stored}
 use Rattle.kdtree.specs.Nearest.{startOf, placeOf, numberOf}
 use Rattle.kdtree.proofs.Nodes.{All}
 use Rattle.kdtree.proofs.Whole as whole
-use Rattle.walks.specs.Demand3.{Numbered, distTo, Nearer, NotNearer, SomeNan, Each, In, Reordered, Bare, empty, kept, insertInto, fill, answers, Accepted, RoomFor, nearestIn, searchIn, treeIn, standing, rootOf, walkNames, visiting, FirstNearest, Alone, Demand3}
+use Rattle.lists.specs.Each.{Each, In}
+use Rattle.walks.specs.Demand3.{Numbered, distTo, Nearer, NotNearer, SomeNan, Reordered, Bare, empty, kept, insertInto, fill, answers, Accepted, RoomFor, nearestIn, searchIn, treeIn, standing, rootOf, walkNames, visiting, FirstNearest, Alone, Demand3}
 use Rattle.points.proofs.Distance.{dist-number, dist-nan}
 use Rattle.walks.proofs.Pruned.{Agrees, prune, walk-none}
 use Rattle.walks.proofs.Lists.{each-append, each-left, each-right, each-in, each-to, each-both, each-reordered, each-ordered, in-reordered, in-ordered, in-middle, map-append}
