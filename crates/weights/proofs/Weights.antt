@@ -84,7 +84,7 @@ above-zero (suc n) e h = lt→ltb 0 (suc n) (above n)
     above : (n : ℕ) → 0 < suc n
     above n = omega arith
 
--- so 1 / d is finite for a distance of at least 1e-10, +infinity too
+-- what is at most the largest f32 is finite
 finite-below : (x : Float) → T (nonneg x) → T (le x largest32) → T (magnitude x)
 unfolding le ofBits
 finite-below nan p h = absurd p
