@@ -2,9 +2,9 @@ pub mod Bounds
 pub mod Scan
 pub mod Steps
 pub mod Rounding
-pub mod Input
 pub mod Range
-pub mod Whole
+pub mod Waves
+pub mod Guessed
 pub mod Seek
 pub mod Ratio
 pub mod Sides
