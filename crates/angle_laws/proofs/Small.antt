@@ -81,6 +81,18 @@ module _ (n d : ℕ) (dp : 0 < d) (h : 4096 * n < d) where
       go : (n : ℕ) → 4096 * n < d → n ≤ d
       go n h = omega arith
 
+  pub under0 : 2 * piBot * n * 1000 ≤ 786 * (2 * piBot * d)
+  under0 = le-trans (le-of-eq (f1 (2 * piBot) n)) (le-trans (mul-le-mul-left (2 * piBot) (go n h)) (le-of-eq (f2 (2 * piBot) d)))
+    where
+      go : (n : ℕ) → 4096 * n < d → n * 1000 ≤ 786 * d
+      go n h = omega arith
+
+      f1 : (t n : ℕ) → t * n * 1000 ≡ t * (n * 1000)
+      f1 t n = omega arith
+
+      f2 : (t d : ℕ) → t * (786 * d) ≡ 786 * (t * d)
+      f2 t d = omega arith
+
   sq : 16777216 * (2 * piBot * n * (2 * piBot * n)) ≤ 2 * piBot * d * (2 * piBot * d)
   sq = square-small n d (2 * piBot) (le1 (4096 * n) d h)
 
