@@ -2,6 +2,7 @@ pub mod About
 pub mod Horner
 pub mod Parts
 pub mod Nested
+pub mod Poly
 pub mod Fixed
 pub mod Below
 pub mod Input
