@@ -3,6 +3,7 @@ pub mod Horner
 pub mod Parts
 pub mod Nested
 pub mod Poly
+pub mod Polys
 pub mod Fixed
 pub mod Below
 pub mod Input
