@@ -41,7 +41,7 @@ less-than g c a M W b cp h k = le-of-mul-le-mul-right (go (mul-le-mul-right M k)
     go f = omega arith
 
 -- A / B is g / M, g / M is near a / c, and a / c near N / D
-chain-low : (A B g M W a c N D K e : ℕ) → 0 < M → 0 < c → A * M ≡ g * B → g * c ≤ a * M + W * c → K * W ≤ M → a * D * K ≤ N * c * K + e * (c * D) → A * D * K ≤ N * B * K + (e + 1) * (B * D)
+pub chain-low : (A B g M W a c N D K e : ℕ) → 0 < M → 0 < c → A * M ≡ g * B → g * c ≤ a * M + W * c → K * W ≤ M → a * D * K ≤ N * c * K + e * (c * D) → A * D * K ≤ N * B * K + (e + 1) * (B * D)
 chain-low A B g M W a c N D K e mp cp v o w h =
     le-of-mul-le-mul-right {k = M * c}
     (glue (s1 (ap (λ (z : ℕ). z * (D * K * c)) v)) (s2 (mul-le-mul-right (B * D * K) o)) (s3 (mul-le-mul-right (B * M) h)) (s4 (mul-le-mul-right (B * D * c) w)))
@@ -64,7 +64,7 @@ chain-low A B g M W a c N D K e mp cp v o w h =
         fin' : N * B * K * M * c + e * (B * D * M * c) + B * D * M * c ≡ (N * B * K + (e + 1) * (B * D)) * (M * c)
         fin' = omega arith
 
-chain-high : (A B g M W a c N D K e : ℕ) → 0 < M → 0 < c → A * M ≡ g * B → a * M ≤ g * c + W * c → K * W ≤ M → N * c * K ≤ a * D * K + e * (c * D) → N * B * K ≤ A * D * K + (e + 1) * (B * D)
+pub chain-high : (A B g M W a c N D K e : ℕ) → 0 < M → 0 < c → A * M ≡ g * B → a * M ≤ g * c + W * c → K * W ≤ M → N * c * K ≤ a * D * K + e * (c * D) → N * B * K ≤ A * D * K + (e + 1) * (B * D)
 chain-high A B g M W a c N D K e mp cp v o w h =
     le-of-mul-le-mul-right {k = M * c}
     (le-trans (s3 (mul-le-mul-right (B * M) h)) (le-trans (sums (s2 (mul-le-mul-right (B * D * K) o)) (s4 (mul-le-mul-right (B * D * c) w))) (le-of-eq (ap (λ (z : ℕ). z + B * D * M * c + e * (B * D * M * c)) (sym (s1 (ap (λ (z : ℕ). z * (D * K * c)) v))) ∙ fin'))))

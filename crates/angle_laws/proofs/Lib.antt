@@ -4,6 +4,8 @@ pub mod Parts
 pub mod Nested
 pub mod Poly
 pub mod Polys
+pub mod Single
+pub mod Rest
 pub mod Fixed
 pub mod Below
 pub mod Input
@@ -19,3 +21,5 @@ pub mod Certify
 pub mod Arcs
 pub mod Best
 pub mod Zero
+pub mod Chosen
+pub mod Near
