@@ -1,16 +1,16 @@
 -- Rounding errors of binary64, in units of 2^-32: a float that is about a fraction, and what the operations make of such floats. Assumes nothing.
 use mathlib.Core.Path.{_≡_, refl, sym, ap, ap₂, _∙_, subst}
-use mathlib.Core.Bool.{Bool, true, false, not, cond, true≢false}
-use Prim.Native.Nat.{ℕ, _+_, _-_, _*_, _/_, _^_, _≤_, _<_}
-use native.Mathlib.Nat.{add-le-add, sub-le, le-refl, le-trans, le-of-eq, lt-of-le-of-lt, lt-of-lt-of-le, mul-comm, mul-pos, mul-le-mul, mul-le-mul-left, mul-le-mul-right, le-of-mul-le-mul-left, le-of-mul-le-mul-right, lt-of-mul-lt-mul-right, mul-lt-mul-of-pos-right}
+use mathlib.Core.Bool.{Bool, true, false, cond, true≢false}
+use Prim.Native.Nat.{ℕ, _+_, _-_, _*_, _^_, _≤_, _<_}
+use native.Mathlib.Nat.{add-le-add, sub-le, le-refl, le-trans, le-of-eq, lt-of-le-of-lt, mul-pos, mul-le-mul, mul-le-mul-left, mul-le-mul-right, le-of-mul-le-mul-right, mul-lt-mul-of-pos-right}
 use native.Mathlib.Omega.{arith}
-use lib.Dec.{T, ltb, lit<, lit≤}
+use lib.Dec.{lit<, lit≤}
 use lib.Pow.{pow-pos}
-use lib.IntN.{ℤ, pos, negsuc}
-use lib.Ieee.{Float, nan, inf, fin, binary64, up, down, round, sum, add, sub, mul, neg, le, unlike}
+use lib.IntN.{ℤ}
+use lib.Ieee.{Float, nan, inf, fin, binary64, up, down, round, sum, add, sub, mul, neg}
 use lib.Ieee.Fits.{down-pos}
 use lib.Ieee.Exact.{HasValue}
-use lib.Ieee.Scale.{grid, overflow, round-val}
+use lib.Ieee.Scale.{grid, round-val}
 use Rattle.angles.proofs.Rounding.{Off, grid-off}
 use Rattle.angles.proofs.Sides.{test-false}
 
@@ -49,18 +49,23 @@ chain-low A B g M W a c N D K e mp cp v o w h =
   where
     s1 : A * M * (D * K * c) ≡ g * B * (D * K * c) → A * D * K * (M * c) ≡ g * B * D * K * c
     s1 f = omega arith
+
     s2 : g * c * (B * D * K) ≤ (a * M + W * c) * (B * D * K) → g * B * D * K * c ≤ a * B * D * K * M + K * W * B * D * c
     s2 f = omega arith
+
     s3 : a * D * K * (B * M) ≤ (N * c * K + e * (c * D)) * (B * M) → a * B * D * K * M ≤ N * B * K * M * c + e * (B * D * M * c)
     s3 f = omega arith
+
     s4 : K * W * (B * D * c) ≤ M * (B * D * c) → K * W * B * D * c ≤ B * D * M * c
     s4 f = omega arith
+
     glue : A * D * K * (M * c) ≡ g * B * D * K * c → g * B * D * K * c ≤ a * B * D * K * M + K * W * B * D * c → a * B * D * K * M ≤ N * B * K * M * c + e * (B * D * M * c) → K * W * B * D * c ≤ B * D * M * c
         → A * D * K * (M * c) ≤ (N * B * K + (e + 1) * (B * D)) * (M * c)
     glue p q r s = le-trans (le-of-eq p) (le-trans q (le-trans (sums r s) (le-of-eq fin')))
       where
         sums : a * B * D * K * M ≤ N * B * K * M * c + e * (B * D * M * c) → K * W * B * D * c ≤ B * D * M * c → a * B * D * K * M + K * W * B * D * c ≤ N * B * K * M * c + e * (B * D * M * c) + B * D * M * c
         sums r s = add-le-add r s
+
         fin' : N * B * K * M * c + e * (B * D * M * c) + B * D * M * c ≡ (N * B * K + (e + 1) * (B * D)) * (M * c)
         fin' = omega arith
 
@@ -72,14 +77,19 @@ chain-high A B g M W a c N D K e mp cp v o w h =
   where
     s1 : A * M * (D * K * c) ≡ g * B * (D * K * c) → A * D * K * (M * c) ≡ g * B * D * K * c
     s1 f = omega arith
+
     s2 : a * M * (B * D * K) ≤ (g * c + W * c) * (B * D * K) → a * B * D * K * M ≤ g * B * D * K * c + K * W * B * D * c
     s2 f = omega arith
+
     s3 : N * c * K * (B * M) ≤ (a * D * K + e * (c * D)) * (B * M) → N * B * K * (M * c) ≤ a * B * D * K * M + e * (B * D * M * c)
     s3 f = omega arith
+
     s4 : K * W * (B * D * c) ≤ M * (B * D * c) → K * W * B * D * c ≤ B * D * M * c
     s4 f = omega arith
+
     sums : a * B * D * K * M ≤ g * B * D * K * c + K * W * B * D * c → K * W * B * D * c ≤ B * D * M * c → a * B * D * K * M + e * (B * D * M * c) ≤ g * B * D * K * c + B * D * M * c + e * (B * D * M * c)
     sums r s = add-le-add (le-trans r (add-le-add (le-refl (g * B * D * K * c)) s)) (le-refl (e * (B * D * M * c)))
+
     fin' : A * D * K * (M * c) + B * D * M * c + e * (B * D * M * c) ≡ (A * D * K + (e + 1) * (B * D)) * (M * c)
     fin' = omega arith
 
@@ -88,10 +98,12 @@ valued nan g a c N D e cp v o lo hi = absurd v
 valued (inf s) g a c N D e cp v o lo hi = absurd v
 valued (fin true m x) g a c N D e cp v o lo hi = absurd (true≢false (v .0))
 valued (fin false m x) g a c N D e cp v o lo hi = record {
-    m = m; x' = x; is = refl;
-    low = chain-low (m * up x) (down x) g (2 ^ 1074) (2 ^ 1027) a c N D K e (pow-pos 1074) cp (v .1) (o .low') (lit≤ tt) lo;
-    high = chain-high (m * up x) (down x) g (2 ^ 1074) (2 ^ 1027) a c N D K e (pow-pos 1074) cp (v .1) (o .high') (lit≤ tt) hi
-  }
+  m = m;
+  x' = x;
+  is = refl;
+  low = chain-low (m * up x) (down x) g (2 ^ 1074) (2 ^ 1027) a c N D K e (pow-pos 1074) cp (v .1) (o .low') (lit≤ tt) lo;
+  high = chain-high (m * up x) (down x) g (2 ^ 1074) (2 ^ 1027) a c N D K e (pow-pos 1074) cp (v .1) (o .high') (lit≤ tt) hi;
+}
 
 pub about-round : (a c N D e : ℕ) → 0 < c → a ≤ 32 * c → a * D * K ≤ N * c * K + e * (c * D) → N * c * K ≤ a * D * K + e * (c * D) → About (round binary64 false a c) N D (e + 1)
 about-round a c N D e cp al lo hi =
@@ -107,50 +119,65 @@ about-round a c N D e cp al lo hi =
 -- ---- the same float, about an equal fraction, and about a near one
 pub about-same : {x : Float} (N D N' D' e : ℕ) → 0 < D → N * D' ≡ N' * D → About x N D e → About x N' D' e
 about-same N D N' D' e dp q a = record {
-    m = a .m; x' = a .x'; is = a .is;
-    low = le-of-mul-le-mul-right (le-trans (le-of-eq (g1 (a .m * up (a .x')) D D' K)) (le-trans (mul-le-mul-right D' (a .low)) (le-of-eq (g2 N (down (a .x')) K e D D' ∙ ap (λ (z : ℕ). z * (down (a .x') * K) + e * (down (a .x') * D' * D)) q ∙ g3 N' D (down (a .x')) K e D')))) dp;
-    high = le-of-mul-le-mul-right (le-trans (le-of-eq (g4 N' (down (a .x')) K D ∙ ap (λ (z : ℕ). z * (down (a .x') * K)) (sym q) ∙ g5 N D' (down (a .x')) K)) (le-trans (mul-le-mul-right D' (a .high)) (le-of-eq (g6 (a .m * up (a .x')) D K e (down (a .x')) D')))) dp
-  }
+  m = a .m;
+  x' = a .x';
+  is = a .is;
+  low = le-of-mul-le-mul-right (le-trans (le-of-eq (g1 (a .m * up (a .x')) D D' K)) (le-trans (mul-le-mul-right D' (a .low)) (le-of-eq (g2 N (down (a .x')) K e D D' ∙ ap (λ (z : ℕ). z * (down (a .x') * K) + e * (down (a .x') * D' * D)) q ∙ g3 N' D (down (a .x')) K e D')))) dp;
+  high = le-of-mul-le-mul-right (le-trans (le-of-eq (g4 N' (down (a .x')) K D ∙ ap (λ (z : ℕ). z * (down (a .x') * K)) (sym q) ∙ g5 N D' (down (a .x')) K)) (le-trans (mul-le-mul-right D' (a .high)) (le-of-eq (g6 (a .m * up (a .x')) D K e (down (a .x')) D')))) dp;
+}
   where
     g1 : (A D D' K : ℕ) → A * D' * K * D ≡ A * D * K * D'
     g1 A D D' K = omega arith
+
     g2 : (N B K e D D' : ℕ) → (N * B * K + e * (B * D)) * D' ≡ N * D' * (B * K) + e * (B * D' * D)
     g2 N B K e D D' = omega arith
+
     g3 : (N' D B K e D' : ℕ) → N' * D * (B * K) + e * (B * D' * D) ≡ (N' * B * K + e * (B * D')) * D
     g3 N' D B K e D' = omega arith
+
     g4 : (N' B K D : ℕ) → N' * B * K * D ≡ N' * D * (B * K)
     g4 N' B K D = omega arith
+
     g5 : (N D' B K : ℕ) → N * D' * (B * K) ≡ N * B * K * D'
     g5 N D' B K = omega arith
+
     g6 : (A D K e B D' : ℕ) → (A * D * K + e * (B * D)) * D' ≡ (A * D' * K + e * (B * D')) * D
     g6 A D K e B D' = omega arith
 
 -- N / D within g / 2^32 of N' / D'
 pub about-shift : {x : Float} (N D N' D' e g : ℕ) → 0 < D → N * D' * K ≤ N' * D * K + g * (D * D') → N' * D * K ≤ N * D' * K + g * (D * D') → About x N D e → About x N' D' (e + g)
 about-shift N D N' D' e g dp lo hi a = record {
-    m = a .m; x' = a .x'; is = a .is;
-    low = le-of-mul-le-mul-right (lows (a .m * up (a .x')) (down (a .x')) (mul-le-mul-right D' (a .low)) (mul-le-mul-right (down (a .x')) lo)) dp;
-    high = le-of-mul-le-mul-right (highs (a .m * up (a .x')) (down (a .x')) (mul-le-mul-right D' (a .high)) (mul-le-mul-right (down (a .x')) hi)) dp
-  }
+  m = a .m;
+  x' = a .x';
+  is = a .is;
+  low = le-of-mul-le-mul-right (lows (a .m * up (a .x')) (down (a .x')) (mul-le-mul-right D' (a .low)) (mul-le-mul-right (down (a .x')) lo)) dp;
+  high = le-of-mul-le-mul-right (highs (a .m * up (a .x')) (down (a .x')) (mul-le-mul-right D' (a .high)) (mul-le-mul-right (down (a .x')) hi)) dp;
+}
   where
     lows : (A B : ℕ) → A * D * K * D' ≤ (N * B * K + e * (B * D)) * D' → N * D' * K * B ≤ (N' * D * K + g * (D * D')) * B → A * D' * K * D ≤ (N' * B * K + (e + g) * (B * D')) * D
     lows A B p q = le-trans (le-of-eq (o1 A D D' K)) (le-trans (f1 p) (le-trans (add-le-add (f2 q) (le-refl (e * (B * D * D')))) (le-of-eq (o2 N' B D K g e D'))))
       where
         f1 : A * D * K * D' ≤ (N * B * K + e * (B * D)) * D' → A * D * D' * K ≤ N * B * D' * K + e * (B * D * D')
         f1 f = omega arith
+
         f2 : N * D' * K * B ≤ (N' * D * K + g * (D * D')) * B → N * B * D' * K ≤ N' * B * D * K + g * (B * D * D')
         f2 f = omega arith
+
         o1 : (A D D' K : ℕ) → A * D' * K * D ≡ A * D * D' * K
         o1 A D D' K = omega arith
+
         o2 : (N' B D K g e D' : ℕ) → N' * B * D * K + g * (B * D * D') + e * (B * D * D') ≡ (N' * B * K + (e + g) * (B * D')) * D
         o2 N' B D K g e D' = omega arith
+
     highs : (A B : ℕ) → N * B * K * D' ≤ (A * D * K + e * (B * D)) * D' → N' * D * K * B ≤ (N * D' * K + g * (D * D')) * B → N' * B * K * D ≤ (A * D' * K + (e + g) * (B * D')) * D
     highs A B p q = le-trans (le-of-eq (o1 N' B K D)) (le-trans q (le-trans (le-of-eq (o2 N D' K g D B)) (le-trans (add-le-add p (le-refl (g * (B * D * D')))) (le-of-eq (o3 A D K e B D' g)))))
       where
         o1 : (N' B K D : ℕ) → N' * B * K * D ≡ N' * D * K * B
         o1 N' B K D = omega arith
+
         o2 : (N D' K g D B : ℕ) → (N * D' * K + g * (D * D')) * B ≡ N * B * K * D' + g * (B * D * D')
         o2 N D' K g D B = omega arith
+
         o3 : (A D K e B D' g : ℕ) → (A * D * K + e * (B * D)) * D' + g * (B * D * D') ≡ (A * D' * K + (e + g) * (B * D')) * D
         o3 A D K e B D' g = omega arith
 
@@ -161,8 +188,10 @@ top-of A B N D e K dp n h = le-of-mul-le-mul-right (le-trans (le-of-eq g1) (le-t
   where
     g1 : A * K * D ≡ A * D * K
     g1 = omega arith
+
     g2 : D * (B * K) + e * (B * D) ≡ (K + e) * B * D
     g2 = omega arith
+
     g3 : N * B * K ≡ N * (B * K)
     g3 = omega arith
 
@@ -176,14 +205,17 @@ prod-low A B N D e A' B' N' D' f K kp n n' ef h h' =
   where
     f1 : A * A' * (D * D') * K * K ≡ A * D * K * (A' * D' * K)
     f1 = omega arith
+
     f2 : (N * B * K + e * (B * D)) * (N' * B' * K + f * (B' * D')) ≡ N * N' * (B * B') * K * K + (f * K * B * B' * D' * N + (e * K * B * B' * D * N' + e * f * (B * B' * (D * D'))))
     f2 = omega arith
+
     sums : f * K * B * B' * D' * N ≤ f * K * B * B' * D' * D → e * K * B * B' * D * N' ≤ e * K * B * B' * D * D' → e * f * (B * B' * (D * D')) ≤ K * (B * B' * (D * D'))
         → N * N' * (B * B') * K * K + (f * K * B * B' * D' * N + (e * K * B * B' * D * N' + e * f * (B * B' * (D * D')))) ≤ N * N' * (B * B') * K * K + (f * K * B * B' * D' * D + (e * K * B * B' * D * D' + 3 * (K * (B * B' * (D * D')))))
     sums p q r = add-le-add (le-refl (N * N' * (B * B') * K * K)) (add-le-add p (add-le-add q (le-trans r (thrice (K * (B * B' * (D * D')))))))
       where
         thrice : (x : ℕ) → x ≤ 3 * x
         thrice x = omega arith
+
     f3 : N * N' * (B * B') * K * K + (f * K * B * B' * D' * D + (e * K * B * B' * D * D' + 3 * (K * (B * B' * (D * D'))))) ≡ (N * N' * (B * B') * K + (e + f + 3) * (B * B' * (D * D'))) * K
     f3 = omega arith
 
@@ -196,17 +228,23 @@ prod-high A B N D e A' B' N' D' f K kp a a' ef h h' =
   where
     Z : ℕ
     Z = B * B' * (D * D')
+
     f1 : N * N' * (B * B') * K * K ≡ N * B * K * (N' * B' * K)
     f1 = omega arith
+
     f2 : (A * D * K + e * (B * D)) * (A' * D' * K + f * (B' * D')) ≡ A * A' * (D * D') * K * K + (f * D * B' * D' * (A * K) + (e * D * B * D' * (A' * K) + e * f * (B * B' * (D * D'))))
     f2 = omega arith
+
     s1 : f * D * B' * D' * ((K + e) * B) ≡ f * K * (B * B' * (D * D')) + e * f * (B * B' * (D * D'))
     s1 = omega arith
+
     s2 : e * D * B * D' * ((K + f) * B') ≡ e * K * (B * B' * (D * D')) + e * f * (B * B' * (D * D'))
     s2 = omega arith
+
     sums : f * D * B' * D' * (A * K) ≤ f * D * B' * D' * ((K + e) * B) → e * D * B * D' * (A' * K) ≤ e * D * B * D' * ((K + f) * B') → e * f * (B * B' * (D * D')) ≤ K * (B * B' * (D * D'))
         → A * A' * (D * D') * K * K + (f * D * B' * D' * (A * K) + (e * D * B * D' * (A' * K) + e * f * (B * B' * (D * D')))) ≤ A * A' * (D * D') * K * K + (f * K * (B * B' * (D * D')) + K * (B * B' * (D * D')) + (e * K * (B * B' * (D * D')) + K * (B * B' * (D * D')) + K * (B * B' * (D * D'))))
     sums p q r = add-le-add (le-refl (A * A' * (D * D') * K * K)) (add-le-add (le-trans p (le-trans (le-of-eq s1) (add-le-add (le-refl (f * K * (B * B' * (D * D')))) r))) (add-le-add (le-trans q (le-trans (le-of-eq s2) (add-le-add (le-refl (e * K * (B * B' * (D * D')))) r))) r))
+
     f3 : A * A' * (D * D') * K * K + (f * K * (B * B' * (D * D')) + K * (B * B' * (D * D')) + (e * K * (B * B' * (D * D')) + K * (B * B' * (D * D')) + K * (B * B' * (D * D')))) ≡ (A * A' * (D * D') * K + (e + f + 3) * (B * B' * (D * D'))) * K
     f3 = omega arith
 
@@ -219,6 +257,7 @@ prod-top A B A' B' e f K kp e1 f1 a a' = le-trans (mul-le-mul (two A B e a e1) (
       where
         eq : (K B : ℕ) → (K + K) * B ≡ 2 * B * K
         eq K B = omega arith
+
     four : 2 * B * (2 * B') ≡ 4 * (B * B')
     four = omega arith
 
@@ -247,6 +286,7 @@ sum-low A B N D e A' B' N' D' f K h h' = le-trans (le-of-eq f1) (le-trans (add-l
   where
     f1 : (A * B' + A' * B) * (D * D') * K ≡ A * D * K * (B' * D') + A' * D' * K * (B * D)
     f1 = omega arith
+
     f2 : (N * B * K + e * (B * D)) * (B' * D') + (N' * B' * K + f * (B' * D')) * (B * D) ≡ (N * D' + N' * D) * (B * B') * K + (e + f) * (B * B' * (D * D'))
     f2 = omega arith
 
@@ -256,6 +296,7 @@ sum-high A B N D e A' B' N' D' f K h h' = le-trans (le-of-eq f1) (le-trans (add-
   where
     f1 : (N * D' + N' * D) * (B * B') * K ≡ N * B * K * (B' * D') + N' * B' * K * (B * D)
     f1 = omega arith
+
     f2 : (A * D * K + e * (B * D)) * (B' * D') + (A' * D' * K + f * (B' * D')) * (B * D) ≡ (A * B' + A' * B) * (D * D') * K + (e + f) * (B * B' * (D * D'))
     f2 = omega arith
 
@@ -299,16 +340,22 @@ diff-low A B N D e A' B' N' D' f G K o q h h' = go (A * B' - A' * B) (back (A * 
   where
     back : (u v : ℕ) → v ≤ u → u - v + v ≡ u
     back u v h = omega arith
+
     f1 : (d : ℕ) → (d + A' * B) * (D * D') * K ≡ d * (D * D') * K + A' * B * (D * D') * K
     f1 d = omega arith
+
     f2 : A * B' * (D * D') * K ≡ A * D * K * (B' * D')
     f2 = omega arith
+
     f3 : (N * B * K + e * (B * D)) * (B' * D') ≡ N * D' * (B * B' * K) + e * (B * B' * (D * D'))
     f3 = omega arith
+
     f4 : (G + N' * D) * (B * B' * K) + e * (B * B' * (D * D')) ≡ G * (B * B') * K + e * (B * B' * (D * D')) + N' * B' * K * (B * D)
     f4 = omega arith
+
     f5 : G * (B * B') * K + e * (B * B' * (D * D')) + (A' * D' * K + f * (B' * D')) * (B * D) ≡ G * (B * B') * K + (e + f) * (B * B' * (D * D')) + A' * B * (D * D') * K
     f5 = omega arith
+
     go : (d : ℕ) → d + A' * B ≡ A * B' → d * (D * D') * K ≤ G * (B * B') * K + (e + f) * (B * B' * (D * D'))
     go d s = add-le-cancel-right (A' * B * (D * D') * K)
         (le-trans (le-of-eq (sym (f1 d) ∙ ap (λ (z : ℕ). z * (D * D') * K) s ∙ f2)) (le-trans (mul-le-mul-right (B' * D') h) (le-trans (le-of-eq (f3 ∙ ap (λ (z : ℕ). z * (B * B' * K) + e * (B * B' * (D * D'))) (sym q) ∙ f4)) (le-trans (add-le-add (le-refl (G * (B * B') * K + e * (B * B' * (D * D')))) (mul-le-mul-right (B * D) h')) (le-of-eq f5)))))
@@ -319,16 +366,22 @@ diff-high A B N D e A' B' N' D' f G K o q h h' = go (A * B' - A' * B) (back (A *
   where
     back : (u v : ℕ) → v ≤ u → u - v + v ≡ u
     back u v h = omega arith
+
     f0 : G * (B * B') * K + N' * B' * K * (B * D) ≡ (G + N' * D) * (B * B' * K)
     f0 = omega arith
+
     f1 : N * D' * (B * B' * K) ≡ N * B * K * (B' * D')
     f1 = omega arith
+
     f2 : (A * D * K + e * (B * D)) * (B' * D') ≡ A * B' * (D * D' * K) + e * (B * B' * (D * D'))
     f2 = omega arith
+
     f3 : (d : ℕ) → (d + A' * B) * (D * D' * K) + e * (B * B' * (D * D')) ≡ d * (D * D') * K + e * (B * B' * (D * D')) + A' * D' * K * (B * D)
     f3 d = omega arith
+
     f4 : (d : ℕ) → d * (D * D') * K + e * (B * B' * (D * D')) + (N' * B' * K + f * (B' * D')) * (B * D) ≡ d * (D * D') * K + (e + f) * (B * B' * (D * D')) + N' * B' * K * (B * D)
     f4 d = omega arith
+
     go : (d : ℕ) → d + A' * B ≡ A * B' → G * (B * B') * K ≤ d * (D * D') * K + (e + f) * (B * B' * (D * D'))
     go d s = add-le-cancel-right (N' * B' * K * (B * D))
         (le-trans (le-of-eq (f0 ∙ ap (λ (z : ℕ). z * (B * B' * K)) q ∙ f1)) (le-trans (mul-le-mul-right (B' * D') h) (le-trans (le-of-eq (f2 ∙ ap (λ (z : ℕ). z * (D * D' * K) + e * (B * B' * (D * D'))) (sym s) ∙ f3 d)) (le-trans (add-le-add (le-refl (d * (D * D') * K + e * (B * B' * (D * D')))) (mul-le-mul-right (B * D) h')) (le-of-eq (f4 d))))))
@@ -359,9 +412,12 @@ about-le N D N' D' e f a b dp dp' h = go (a .m * up (a .x')) (down (a .x')) (b .
       where
         f1 : (A' B D' e B' D : ℕ) → A' * B * (D * D' * K) + e * (B * B' * (D * D')) ≡ A' * D' * K * (B * D) + e * (B * B' * (D * D'))
         f1 A' B D' e B' D = omega arith
+
         f2 : (N' B' f D' B D e : ℕ) → (N' * B' * K + f * (B' * D')) * (B * D) + e * (B * B' * (D * D')) ≡ (N' * D * K + (e + f) * (D * D')) * (B * B')
         f2 N' B' f D' B D e = omega arith
+
         f3 : (N D' B B' : ℕ) → N * D' * K * (B * B') ≡ N * B * K * (B' * D')
         f3 N D' B B' = omega arith
+
         f4 : (A D e B B' D' : ℕ) → (A * D * K + e * (B * D)) * (B' * D') ≡ A * B' * (D * D' * K) + e * (B * B' * (D * D'))
         f4 A D e B B' D' = omega arith

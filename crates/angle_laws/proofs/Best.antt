@@ -1,10 +1,10 @@
--- The certified guess answers an `IsArc`, and so do the steps of the arctangent: the guess, or the halving.
+-- The certified guess answers an `IsArc`, and so do the steps of the arctangent: the guess, or the halving. Assumes nothing.
 use mathlib.Core.Path.{_≡_, sym, subst, ap, _∙_, refl, subst₂}
-use mathlib.Core.Bool.{Bool, false, true, not, cond, true≢false}
-use Prim.Native.Nat.{ℕ, _+_, _-_, _*_, _/_, _≤_, _<_, _^_, max, zero-le, zero, suc}
-use native.Mathlib.Nat.{le-trans, le-of-eq, mul-le-mul-left, mul-le-mul-right, le-of-mul-le-mul-right, le-of-lt, mul-one, mul-assoc, mul-comm, div-mul-le-self, lt-div-mul-add, div-one, mul-pos, zero-lt-suc}
+use mathlib.Core.Bool.{Bool, false, true, cond, true≢false}
+use Prim.Native.Nat.{ℕ, _+_, _*_, _≤_, _<_, max, zero-le, zero, suc}
+use native.Mathlib.Nat.{le-trans, le-of-eq, mul-pos, zero-lt-suc}
 use native.Mathlib.Omega.{arith}
-use lib.IntN.{ℤ, negsuc, pos}
+use lib.IntN.{ℤ, pos}
 use lib.Ieee.{Float, nan, inf, fin, up, down, binary32, fits, lt, le, eq, neg, div, mul, round}
 use lib.Dec.{T, lit<, lit≤}
 use lib.Ieee.Fits.{down-pos, up-pos, cond-fits, neg-fits, sub-fits, div-fits}
@@ -12,8 +12,8 @@ use lib.Ieee.Bits.{ofBits-fits}
 use lib.Ieee.Scale.{round-same}
 use Rattle.bits.specs.Parts.{places}
 use Rattle.angles.proofs.Cert.{top-of, body}
-use Rattle.angle_laws.specs.Angle.{piBot, C, Ratio, S, sine, cosine}
-use Rattle.angle_laws.proofs.Placed.{Placed, placed}
+use Rattle.angle_laws.specs.Angle.{C, Ratio, S, sine, cosine}
+use Rattle.angle_laws.proofs.Placed.{placed}
 use Rattle.angles.specs.Sines.{plusZero}
 use Rattle.angles.specs.Arc.{pi32, magf, certOf, gridTest, ratioOf, arcSteps, bestSteps}
 use Rattle.angle_laws.specs.Asked.{IsArc}

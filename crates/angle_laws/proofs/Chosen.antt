@@ -1,5 +1,5 @@
 -- The sine and the cosine of a float from 2^-12 to 16: within 2^-20 of S and C, by the choice that k mod 4 makes. Assumes nothing.
-use mathlib.Core.Path.{_≡_, sym, ap, _∙_, subst}
+use mathlib.Core.Path.{sym, subst}
 use mathlib.Core.Bool.{Bool, true, false, cond}
 use Prim.Native.Nat.{ℕ, zero, suc, _-_, _*_, _%_, _≤_, _<_}
 use native.Mathlib.Nat.{le-refl, le-trans, le-of-eq, mul-le-mul}
@@ -20,7 +20,7 @@ use Rattle.angle_laws.proofs.Polys.{sin-about, cos-about}
 use Rattle.angle_laws.proofs.Single.{ratio, near-single}
 use Rattle.angle_laws.proofs.Rest.{Rested, rested}
 use Rattle.angle_laws.proofs.Reduce.{Reduced}
-use Rattle.angle_laws.proofs.Placed.{Placed, placed}
+use Rattle.angle_laws.proofs.Placed.{placed}
 
 sin-le : (R D : ℕ) → R ≤ D → sinTop R D ≤ sinBot D
 sin-le R D h = le-trans (le-of-eq (sin-nested R D h)) (le-trans (mul-le-mul h (top-le (R * R) (D * D) _ tt (mul-le-mul h h))) (le-of-eq (sym (sin-bot D))))

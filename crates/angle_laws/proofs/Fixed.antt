@@ -1,4 +1,4 @@
--- The fixed-point sine and cosine of an angle A / 2^34 that is within e / 2^34 of R / D are near the series of R / D: the whole numeric core, for any e.
+-- The fixed-point sine and cosine of an angle A / 2^34 that is within e / 2^34 of R / D are near the series of R / D: the whole numeric core, for any e. Assumes nothing.
 use Prim.Native.Nat.{ℕ, _+_, _*_, _≤_, _/_}
 use native.Mathlib.Omega.{arith}
 use mathlib.Core.Path.{refl, sym, subst₂}

@@ -1,16 +1,14 @@
 -- A float from 2^-12 up is a whole number of 2^-40: its digits and its exponent. Assumes nothing.
 use mathlib.Core.Path.{_≡_, sym, ap, _∙_, refl, subst}
-use Prim.Native.Nat.{ℕ, _*_, _^_, _+_, _-_, _≤_, _<_, suc, zero, _%_, _/_, min}
+use Prim.Native.Nat.{ℕ, _*_, _^_, _+_, _-_, _≤_, _<_, suc, zero, _%_}
 use lib.IntN.{ℤ, pos, negsuc}
-use lib.Ieee.{up, down, fin, binary32, fits, Float, lt, toUnsigned, nan, inf, round, mul}
+use lib.Ieee.{up, down, fin, binary32, fits}
 use native.Mathlib.Omega.{arith}
 use lib.Pow.{pow-add, pow-lt}
-use mathlib.Core.Bool.{Bool, true, false, not, _&&_, true≢false}
-use native.Mathlib.Nat.{lt-of-lt-of-le, lt-irrefl, le-trans, mul-one, one-mul, le-of-eq, zero-mul, zero-lt-suc, mul-le-mul-left, mul-assoc, mul-comm, mul-le-mul-right, le-of-mul-le-mul-right, min-eq-left, eq-of-mul-eq-mul-right, div-one, lt-of-le-of-lt, mul-pos}
-use lib.Dec.{T, ltb, ltb→lt, nltb→le, lit≤, leb, eqb, lt→ltb, lit<}
-use lib.Ieee.Fits.{and-l, and-r, down-pos}
-use lib.Ieee.Nearest.{div-same}
-use lib.Ieee.Exact.{HasValue, round-exact}
+use mathlib.Core.Bool.{Bool, true, false, not, _&&_}
+use native.Mathlib.Nat.{lt-of-lt-of-le, lt-irrefl, le-trans, mul-one, one-mul, le-of-eq, zero-mul, zero-lt-suc, mul-le-mul-left}
+use lib.Dec.{T, ltb, ltb→lt, nltb→le, lit≤, leb, eqb}
+use lib.Ieee.Fits.{and-l, and-r}
 
 -- w * down e = 2^40
 pub record Whole (e : ℤ) : Type 0 where

@@ -1,3 +1,5 @@
+-- The laws, from the ground up: rounding (About), the series (Horner, Parts, Nested, Fixed, Poly, Polys), the reduction (Below, Input, Reduce, Small, Cases, Placed, Rest, Single),
+-- the arctangent (Octant, Out, Place, Line, Certify, Arcs, Best, Zero), and the sine and the cosine (Chosen, Near).
 pub mod About
 pub mod Horner
 pub mod Parts

@@ -1,13 +1,13 @@
 -- Sine and cosine of every f32 from -16 to 16: the steps answer within 2^-20 of S and C. Assumes nothing.
 use mathlib.Core.Path.{_≡_, refl, sym, subst, subst₂}
 use mathlib.Core.Bool.{Bool, true, false, cond}
-use Prim.Native.Nat.{ℕ, _*_}
+use Prim.Native.Nat.{_*_}
 use lib.Dec.{T}
-use lib.Ieee.{Float, fin, binary32, up, down, lt, fits}
+use lib.Ieee.{Float, binary32, up, down, lt, fits}
 use lib.Ieee.Fits.{down-pos}
 use Rattle.angles.specs.Sines.{plusZero, one, small, inRange, absf, sinFrom, cosFrom, sineSteps, cosineSteps}
 use Rattle.angle_laws.specs.Angle.{S, C, sine, cosine, within}
-use Rattle.angle_laws.proofs.Cases.{Large, large, Little, little}
+use Rattle.angle_laws.proofs.Cases.{large, little}
 use Rattle.angle_laws.proofs.Chosen.{sin-from, cos-from}
 use Rattle.angle_laws.proofs.Small.{sine-small, cosine-small}
 

@@ -1,8 +1,8 @@
--- The series of document 01 is the nested form: sinTop = R * top, sinBot = D * bot, cosTop = top, cosBot = bot, over squares.
+-- The series of document 01 is the nested form: sinTop = R * top, sinBot = D * bot, cosTop = top, cosBot = bot, over squares. Assumes nothing.
 use Prim.Native.Nat.{ℕ, zero, suc, _*_, _^_, _≤_, _+_, _-_, _/_}
 use mathlib.Core.Path.{_≡_, ap, _∙_, sym}
 use native.Mathlib.Nat.{pow-zero, pow-suc, le-refl, sub-le, le-trans, le-of-eq, one-mul, mul-le-mul-right, mul-le-mul}
-use mathlib.Core.List.{List, [], _∷_}
+use mathlib.Core.List.{List, _∷_, []}
 use lib.Dec.{T, leb, leb→le}
 use native.Mathlib.Omega.{arith}
 use lib.Ieee.Fits.{and-l, and-r}

@@ -60,6 +60,7 @@ sin-gap U u1 u3 u5 u7 u9 u11 u13 n t a b h3 h5 h7 h9 h11 h13 = (lo, hi)
   where
     lo : 6227020800 * n ≤ 4294967296 * t + 2904 * (6227020800 * U)
     lo = omega arith
+
     hi : 4294967296 * t ≤ 6227020800 * n + 2904 * (6227020800 * U)
     hi = omega arith
 
@@ -206,6 +207,7 @@ widen x y q b h = le-trans (le-of-eq f) (le-trans (mul-le-mul-right q h) (le-of-
   where
     f : x * q * 10000 ≡ x * 10000 * q
     f = omega arith
+
     g : b * y * q ≡ b * (y * q)
     g = omega arith
 
@@ -214,8 +216,10 @@ times-r R D x y b c h k l = le-of-mul-le-mul-right {k = 1000} (le-trans (le-of-e
   where
     f : R * x * 10000 * 1000 ≡ R * 1000 * (x * 10000)
     f = omega arith
+
     g : 786 * D * (b * y) ≡ 786 * b * (D * y)
     g = omega arith
+
     w : c * 1000 * (D * y) ≡ c * (D * y) * 1000
     w = omega arith
 
@@ -278,25 +282,31 @@ module _ (R D : ℕ) (un : R * 1000 ≤ 786 * D) where
     where
       lift : (y s p : ℕ) → s ≤ p → y * s ≤ y * p
       lift y s p h = mul-le-mul-left y h
+
       o1 : (s p : ℕ) → s ≤ p → R * s * (p * p * p * p * p) ≤ R * (p * p * p * p * p * p)
       o1 s p h = le-trans (le-of-eq f) (le-trans (lift (R * (p * p * p * p * p)) s p h) (le-of-eq g))
         where
           f : R * s * (p * p * p * p * p) ≡ R * (p * p * p * p * p) * s
           f = omega arith
+
           g : R * (p * p * p * p * p) * p ≡ R * (p * p * p * p * p * p)
           g = omega arith
+
       o5 : (s p : ℕ) → s ≤ p → R * (s * s * s) * (p * p * p) ≤ R * (s * s) * (p * p * p * p)
       o5 s p h = le-trans (le-of-eq f) (le-trans (lift (R * (s * s) * (p * p * p)) s p h) (le-of-eq g))
         where
           f : R * (s * s * s) * (p * p * p) ≡ R * (s * s) * (p * p * p) * s
           f = omega arith
+
           g : R * (s * s) * (p * p * p) * p ≡ R * (s * s) * (p * p * p * p)
           g = omega arith
+
       o9 : (s p : ℕ) → s ≤ p → R * (s * s * s * s * s) * p ≤ R * (s * s * s * s) * (p * p)
       o9 s p h = le-trans (le-of-eq f) (le-trans (lift (R * (s * s * s * s) * p) s p h) (le-of-eq g))
         where
           f : R * (s * s * s * s * s) * p ≡ R * (s * s * s * s) * p * s
           f = omega arith
+
           g : R * (s * s * s * s) * p * p ≡ R * (s * s * s * s) * (p * p)
           g = omega arith
 
@@ -322,17 +332,21 @@ module _ (R D : ℕ) (un : R * 1000 ≤ 786 * D) where
         where
           g : p * (p * p * p * p * p * p) ≡ p * p * p * p * p * p * p
           g = omega arith
+
       o4 : (s p : ℕ) → s ≤ p → s * s * s * (p * p * p * p) ≤ s * s * (p * p * p * p * p)
       o4 s p h = le-trans (le-of-eq f) (le-trans (mul-le-mul-left (s * s * (p * p * p * p)) h) (le-of-eq g))
         where
           f : s * s * s * (p * p * p * p) ≡ s * s * (p * p * p * p) * s
           f = omega arith
+
           g : s * s * (p * p * p * p) * p ≡ s * s * (p * p * p * p * p)
           g = omega arith
+
       o8 : (s p : ℕ) → s ≤ p → s * s * s * s * s * (p * p) ≤ s * s * s * s * (p * p * p)
       o8 s p h = le-trans (le-of-eq f) (le-trans (mul-le-mul-left (s * s * s * s * (p * p)) h) (le-of-eq g))
         where
           f : s * s * s * s * s * (p * p) ≡ s * s * s * s * (p * p) * s
           f = omega arith
+
           g : s * s * s * s * (p * p) * p ≡ s * s * s * s * (p * p * p)
           g = omega arith

@@ -1,13 +1,13 @@
 -- The polynomials in binary64 are about the series: within 2983 and 444 units of 2^-32, for a rest that is within 3 units of R / D ≤ 0.786. Assumes nothing.
 use mathlib.Core.Path.{_≡_, refl, sym, ap, _∙_, subst}
-use mathlib.Core.Bool.{Bool, true, false}
-use Prim.Native.Nat.{ℕ, _+_, _-_, _*_, _^_, _≤_, _<_}
+use mathlib.Core.Bool.{false}
+use Prim.Native.Nat.{ℕ, _+_, _-_, _*_, _≤_, _<_}
 use native.Mathlib.Nat.{add-le-add, add-right-cancel, le-refl, le-trans, le-of-eq, sub-le, mul-one, one-mul, mul-pos, mul-le-mul, mul-le-mul-left, mul-le-mul-right, le-of-mul-le-mul-right}
 use native.Mathlib.Omega.{arith}
 use lib.Dec.{T, lit<, lit≤}
 use lib.IntN.{ℤ, pos, negsuc}
 use lib.Ieee.{Float, fin, binary64, up, down, fits, mul, le, ofBits}
-use lib.Ieee.Fits.{down-pos, mul-fits}
+use lib.Ieee.Fits.{mul-fits}
 use Rattle.floats.proofs.Ratio.{mul-shrinks}
 use Rattle.floats.proofs.Cross.{cross→le, le→cross}
 use Rattle.floats.proofs.Preorder.{le-trans-f}
@@ -51,8 +51,10 @@ one-of N D e a dp h = le-of-mul-le-mul-right {k = D * K} (go (a .m * up (a .x'))
       where
         f1 : (A D : ℕ) → A * (D * K) ≡ A * D * K
         f1 A D = omega arith
+
         f2 : (N B e D : ℕ) → N * B * K + e * (B * D) ≡ (N * K + e * D) * B
         f2 N B e D = omega arith
+
         f3 : (D B : ℕ) → D * K * B ≡ B * (D * K)
         f3 D B = omega arith
 
@@ -81,6 +83,7 @@ sin-parts R s p g₁ g₂ a b =
   where
     f1 : (g₁ * (p * p) + R * s * s * g₂) * (p * p * p) + (715827379 * (R * s * (p * p * p * p * p)) + 838262 * (R * (s * s * s) * (p * p * p))) ≡ (g₁ + R * s * 715827379) * (p * p * p * p * p) + (R * s * s * (p * p * p)) * (g₂ + s * 838262)
     f1 = omega arith
+
     f2 : R * p * 4294967296 * (p * p * p * p * p) + R * s * s * (p * p * p) * (35786433 * p) ≡ 4294967296 * (R * (p * p * p * p * p * p)) + 35786433 * (R * (s * s) * (p * p * p * p))
     f2 = omega arith
 
@@ -90,6 +93,7 @@ to-fraction n q d t F g K h = le-trans (le-of-eq f1) (le-trans (mul-le-mul-right
   where
     f1 : n * (F * (d * q)) * K ≡ F * (n * q) * (d * K)
     f1 = omega arith
+
     f2 : (K * t + g * (F * (d * q))) * (d * K) ≡ t * (d * K) * K + g * (d * K * (F * (d * q)))
     f2 = omega arith
 
@@ -98,6 +102,7 @@ from-fraction n q d t F g K h = le-trans (le-of-eq f1) (le-trans (mul-le-mul-rig
   where
     f1 : t * (d * K) * K ≡ K * t * (d * K)
     f1 = omega arith
+
     f2 : (F * (n * q) + g * (F * (d * q))) * (d * K) ≡ n * (F * (d * q)) * K + g * (d * K * (F * (d * q)))
     f2 = omega arith
 
@@ -147,6 +152,7 @@ module _ (w : Float) (R D : ℕ) (dp : 0 < D) (un : R * 1000 ≤ 786 * D) (a : A
     where
       less' : R * R * 10000 ≤ 6178 * (D * D)
       less' = Rattle.angle_laws.proofs.Poly.squared R D un
+
       room : (s p : ℕ) → s * 10000 ≤ 6178 * p → s * K + 10 * p ≤ p * K
       room s p h = omega arith
 
@@ -169,11 +175,13 @@ module _ (w : Float) (R D : ℕ) (dp : 0 < D) (un : R * 1000 ≤ 786 * D) (a : A
     where
       o1 : (g D : ℕ) → g * D * (D * (D * D) * 4294967296) ≡ g * (D * (D * (D * D) * 4294967296))
       o1 g D = omega arith
+
       o2 : (g D x R : ℕ) → g + x ≡ R * (D * D) * 4294967296 → g * D + x * D ≡ R * (D * (D * D) * 4294967296)
       o2 g D x R e = o3 ∙ ap (λ (y : ℕ). y * D) e ∙ o4
         where
           o3 : g * D + x * D ≡ (g + x) * D
           o3 = omega arith
+
           o4 : R * (D * D) * 4294967296 * D ≡ R * (D * (D * D) * 4294967296)
           o4 = omega arith
 
@@ -193,8 +201,10 @@ module _ (w : Float) (R D : ℕ) (dp : 0 < D) (un : R * 1000 ≤ 786 * D) (a : A
     where
       o1 : (g p : ℕ) → g * 4294967296 * (p * 4294967296) ≡ g * (4294967296 * (p * 4294967296))
       o1 g p = omega arith
+
       o2 : (g p x : ℕ) → g + x ≡ 35786433 * p → g * 4294967296 + x * 4294967296 ≡ 35786433 * (p * 4294967296)
       o2 g p x e = omega arith
+
       o3 : (s p : ℕ) → s ≤ p → s * 838262 * 4294967296 * K + (1 + 15) * (4294967296 * (p * 4294967296)) ≤ 35786433 * (p * 4294967296) * K
       o3 s p h = omega arith
 
@@ -241,6 +251,7 @@ module _ (w : Float) (R D : ℕ) (dp : 0 < D) (un : R * 1000 ≤ 786 * D) (a : A
     where
       o : (D p t : ℕ) → 4294967296 * t + 2904 * (6227020800 * (D * (p * p * p * p * p * p))) ≡ 4294967296 * t + 2904 * (6227020800 * (D * p * p * p * (p * p * p)))
       o D p t = omega arith
+
       o' : (D p t : ℕ) → 6227020800 * t + 2904 * (6227020800 * (D * (p * p * p * p * p * p))) ≡ 6227020800 * t + 2904 * (6227020800 * (D * p * p * p * (p * p * p)))
       o' D p t = omega arith
 
@@ -251,10 +262,13 @@ cos-parts s p g₁ g₃ g a b e = add-right-cancel (s * s * s * g₃ * (p * p * 
   where
     f1 : g * (p * p * p) + (2147483636 * (s * (p * p * p * p * p * p)) + 5964320 * (s * s * s * (p * p * p * p))) + s * s * s * g₃ * (p * p * p) ≡ (g + s * s * s * g₃) * (p * p * p) + (2147483636 * (s * (p * p * p * p * p * p)) + 5964320 * (s * s * s * (p * p * p * p)))
     f1 = omega arith
+
     f2 : (g₁ * p + s * s * 178956785) * (p * p) * (p * p * p) + (2147483636 * (s * (p * p * p * p * p * p)) + 5964320 * (s * s * s * (p * p * p * p))) ≡ (g₁ + s * 2147483636) * (p * p * p * p * p * p) + (s * s * 178956785 * (p * p * p * p * p) + 5964320 * (s * s * s * (p * p * p * p)))
     f2 = omega arith
+
     f3 : p * 4294967296 * (p * p * p * p * p * p) + (s * s * 178956785 * (p * p * p * p * p) + 5964320 * (s * s * s * (p * p * p * p))) ≡ 4294967296 * (p * p * p * p * p * p * p) + 178956785 * (s * s * (p * p * p * p * p)) + s * s * s * (p * p * p) * (5964320 * p)
     f3 = omega arith
+
     f4 : 4294967296 * (p * p * p * p * p * p * p) + 178956785 * (s * s * (p * p * p * p * p)) + s * s * s * (p * p * p) * (g₃ + s * 104756) ≡ 4294967296 * (p * p * p * p * p * p * p) + 178956785 * (s * s * (p * p * p * p * p)) + 104756 * (s * s * s * s * (p * p * p)) + s * s * s * g₃ * (p * p * p)
     f4 = omega arith
 
@@ -344,8 +358,10 @@ module _ (w : Float) (R D : ℕ) (dp : 0 < D) (un : R * 1000 ≤ 786 * D) (a : A
     where
       o1 : (g p : ℕ) → g * 4294967296 * (p * 4294967296) ≡ g * (4294967296 * (p * 4294967296))
       o1 g p = omega arith
+
       o2 : (g p x : ℕ) → g + x ≡ 5964320 * p → g * 4294967296 + x * 4294967296 ≡ 5964320 * (p * 4294967296)
       o2 g p x e = omega arith
+
       o3 : (s p : ℕ) → s ≤ p → s * 104756 * 4294967296 * K + (1 + 15) * (4294967296 * (p * 4294967296)) ≤ 5964320 * (p * 4294967296) * K
       o3 s p h = omega arith
 
@@ -364,8 +380,10 @@ module _ (w : Float) (R D : ℕ) (dp : 0 < D) (un : R * 1000 ≤ 786 * D) (a : A
     where
       o1 : (p : ℕ) → 2147483660 * (p * p) ≡ 2147483660 * p * p
       o1 p = omega arith
+
       o2 : (s p h : ℕ) → s ≤ p → h + s * 2147483636 ≡ p * 4294967296 → 2147483660 * p ≤ h
       o2 s p h a b = omega arith
+
       o3 : (x y : ℕ) → x ≤ x + y
       o3 x y = omega arith
 
@@ -402,6 +420,7 @@ module _ (w : Float) (R D : ℕ) (dp : 0 < D) (un : R * 1000 ≤ 786 * D) (a : A
         where
           o1 : h * p + s * p * 2147483636 ≡ (h + s * 2147483636) * p
           o1 = omega arith
+
           o2 : p * 4294967296 * p ≡ p * p * 4294967296
           o2 = omega arith
 
@@ -415,11 +434,13 @@ module _ (w : Float) (R D : ℕ) (dp : 0 < D) (un : R * 1000 ≤ 786 * D) (a : A
     where
       o : (g p k : ℕ) → g * (p * p * k) * (p * p * p * p * k) ≡ g * (p * p * k * (p * p * p * (p * k)))
       o g p k = omega arith
+
       o' : (g x h p k : ℕ) → g + x ≡ h * (p * p) → g * (p * p * k) + x * (p * p * k) ≡ h * (p * p * p * (p * k))
       o' g x h p k e = f1 ∙ ap (λ (z : ℕ). z * (p * p * k)) e ∙ f2
         where
           f1 : g * (p * p * k) + x * (p * p * k) ≡ (g + x) * (p * p * k)
           f1 = omega arith
+
           f2 : h * (p * p) * (p * p * k) ≡ h * (p * p * p * (p * k))
           f2 = omega arith
 
@@ -435,5 +456,6 @@ module _ (w : Float) (R D : ℕ) (dp : 0 < D) (un : R * 1000 ≤ 786 * D) (a : A
     where
       o : (p t : ℕ) → 4294967296 * t + 338 * (87178291200 * (p * p * p * p * p * p * p)) ≡ 4294967296 * t + 338 * (87178291200 * (p * p * p * p * (p * p * p)))
       o p t = omega arith
+
       o' : (p t : ℕ) → 87178291200 * t + 338 * (87178291200 * (p * p * p * p * p * p * p)) ≡ 87178291200 * t + 338 * (87178291200 * (p * p * p * p * (p * p * p)))
       o' p t = omega arith

@@ -1,4 +1,4 @@
--- The reduction: from X = x 2^40 and the eighth q of a turn in which it lies, to k, the sign of r and r itself.
+-- The reduction: from X = x 2^40 and the eighth q of a turn in which it lies, to k, the sign of r and r itself. Assumes nothing.
 use Prim.Native.Nat.{ℕ, suc, _*_, _<_, _+_, _≤_, _-_, _/_, _%_, zero, zero-le}
 use lib.Dec.{ltb, ltb→lt, leb, leb→le, lit≤, lit<, eqb}
 use mathlib.Core.Path.{_≡_, ap, sym, _∙_, subst, subst₂}

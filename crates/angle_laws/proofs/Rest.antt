@@ -2,20 +2,20 @@
 use mathlib.Core.Path.{_≡_, refl, sym, ap, ap₂, _∙_, subst}
 use mathlib.Core.Bool.{Bool, true, false, not, cond, true≢false}
 use mathlib.Core.Logic.{_⊎_, inl, inr}
-use Prim.Native.Nat.{ℕ, zero, suc, _+_, _-_, _*_, _/_, _%_, _^_, _≤_, _<_}
-use native.Mathlib.Nat.{mul-comm, mul-sub, add-le-add, le-refl, le-trans, le-of-eq, le-of-lt, mul-one, one-mul, mul-pos, mul-le-mul, mul-le-mul-left, mul-le-mul-right, le-of-mul-le-mul-right, zero-lt-suc}
+use Prim.Native.Nat.{ℕ, zero, suc, _+_, _-_, _*_, _^_, _≤_, _<_}
+use native.Mathlib.Nat.{mul-comm, mul-sub, add-le-add, le-refl, le-trans, le-of-eq, le-of-lt, mul-one, mul-pos, mul-le-mul-left, mul-le-mul-right, le-of-mul-le-mul-right, zero-lt-suc}
 use native.Mathlib.Omega.{arith}
 use lib.Dec.{T, ltb, ltb→lt, nltb→le, eqb→eq, lit<, lit≤}
 use lib.Pow.{pow-pos}
 use lib.IntN.{ℤ, pos, negsuc}
-use lib.Ieee.{Float, nan, inf, fin, binary64, up, down, round, sum, sub, add, mul, neg, lt, fits, ofInt, ofBits}
+use lib.Ieee.{Float, nan, inf, fin, binary64, up, down, round, sum, sub, add, mul, neg, fits, ofInt, ofBits}
 use lib.Ieee.Fits.{down-pos, round-fits}
 use lib.Ieee.Back.{round-whole}
 use lib.Ieee.Exact.{HasValue}
 use Rattle.floats.proofs.Sign.{round-neg}
 use Rattle.angles.specs.Steps.{dist, even}
-use Rattle.angles.specs.Sines.{plusZero, half, absf, num, less, times, sinPoly, cosPoly, restOf}
-use Rattle.angles.proofs.Sides.{test-true, test-false, lt-zero, zero-lt}
+use Rattle.angles.specs.Sines.{half, absf, num, times, sinPoly, cosPoly, restOf}
+use Rattle.angles.proofs.Sides.{lt-zero, zero-lt}
 use Rattle.angle_laws.specs.Angle.{piTop, piBot, restTop, restBot}
 use Rattle.angle_laws.proofs.About.{K, About, about-round, about-same}
 
@@ -34,28 +34,36 @@ product (fin false m e) N h v =
   where
     is : m * up e * 1 ≡ N * down e → m * up e ≡ N * down e
     is q = sym (mul-one (m * up e)) ∙ q
+
     top : (x d : ℕ) → x ≡ N * d → N * d ≤ 22 * d → x * 884279719003555 ≤ 32 * (d * 1125899906842624)
     top x d q k = omega arith
+
     -- q 2^50 · 4 piBot ≤ piTop 2^50
     low : (x d t b : ℕ) → x ≡ N * d → N * d * (884279719003555 * (4 * b)) ≤ N * d * (t * 1125899906842624) → x * 884279719003555 * (4 * b) * K ≤ N * t * (d * 1125899906842624) * K + 1 * (d * 1125899906842624 * (4 * b))
     low x d t b q k = le-trans (le-of-eq (f1 ∙ ap (λ (z : ℕ). z * (884279719003555 * (4 * b)) * K) q)) (le-trans (mul-le-mul-right K k) (le-trans (le-of-eq f2) (more (N * t * (d * 1125899906842624) * K) (1 * (d * 1125899906842624 * (4 * b))))))
       where
         f1 : x * 884279719003555 * (4 * b) * K ≡ x * (884279719003555 * (4 * b)) * K
         f1 = omega arith
+
         f2 : N * d * (t * 1125899906842624) * K ≡ N * t * (d * 1125899906842624) * K
         f2 = omega arith
+
         more : (u v : ℕ) → u ≤ u + v
         more u v = omega arith
+
     -- piTop 2^50 K ≤ q 2^50 4 piBot K + 2^50 4 piBot / 22
     high : (x d t b : ℕ) → x ≡ N * d → N * d * (t * 1125899906842624 * K) ≤ N * d * (884279719003555 * (4 * b) * K + 1000000000000 * b) → N * (d * b) ≤ 22 * (d * b) → N * t * (d * 1125899906842624) * K ≤ x * 884279719003555 * (4 * b) * K + 1 * (d * 1125899906842624 * (4 * b))
     high x d t b q k l = le-trans (le-of-eq f1) (le-trans k (le-trans (le-of-eq f2) (add-le-add (le-of-eq (ap (λ (z : ℕ). z * 884279719003555 * (4 * b) * K) (sym q))) (le-trans (rest' (N * (d * b)) (d * b) l) (le-of-eq f3)))))
       where
         f1 : N * t * (d * 1125899906842624) * K ≡ N * d * (t * 1125899906842624 * K)
         f1 = omega arith
+
         f2 : N * d * (884279719003555 * (4 * b) * K + 1000000000000 * b) ≡ N * d * 884279719003555 * (4 * b) * K + 1000000000000 * (N * (d * b))
         f2 = omega arith
+
         f3 : 4503599627370496 * (d * b) ≡ 1 * (d * 1125899906842624 * (4 * b))
         f3 = omega arith
+
         rest' : (u v : ℕ) → u ≤ 22 * v → 1000000000000 * u ≤ 4503599627370496 * v
         rest' u v h = omega arith
 
@@ -72,8 +80,10 @@ dist-mul a b c = go (ltb a b) (ltb→lt a b) (nltb→le a b)
   where
     up-of : (a b : ℕ) → a ≤ b → dist a b ≡ b - a
     up-of a b h = omega arith
+
     down-of : (a b : ℕ) → b ≤ a → dist a b ≡ a - b
     down-of a b h = omega arith
+
     go : (t : Bool) → (T t → a < b) → (T (not t) → b ≤ a) → dist (a * c) (b * c) ≡ dist a b * c
     go true y n = up-of (a * c) (b * c) (mul-le-mul-right c (le-of-lt (y tt))) ∙ pull b a c ∙ ap (λ (z : ℕ). z * c) (sym (up-of a b (le-of-lt (y tt))))
     go false y n = down-of (a * c) (b * c) (mul-le-mul-right c (n tt)) ∙ pull a b c ∙ ap (λ (z : ℕ). z * c) (sym (down-of a b (n tt)))
@@ -85,18 +95,25 @@ module _ (A B A' B' N' D' f : ℕ) (lo : A' * D' * K ≤ N' * B' * K + f * (B' *
     where
       more : (x : ℕ) → x ≤ x + 0
       more x = omega arith
+
       e1 : dist (A * B') (A' * B) * (B * D') * K ≡ dist (A * B') (A' * B) * (B * D' * K)
       e1 = native.Mathlib.Nat.mul-assoc (dist (A * B') (A' * B)) (B * D') K
+
       e2 : A * B' * (B * D' * K) ≡ A * D' * (B * B' * K)
       e2 = omega arith
+
       e3 : A' * B * (B * D' * K) ≡ A' * D' * K * (B * B)
       e3 = omega arith
+
       e4 : (N' * B' * K + f * (B' * D')) * (B * B) ≡ N' * B * (B * B' * K) + f * (B * B' * (B * D'))
       e4 = omega arith
+
       e5 : N' * B * (B * B' * K) ≡ N' * B' * K * (B * B)
       e5 = omega arith
+
       e6 : (A' * D' * K + f * (B' * D')) * (B * B) ≡ A' * B * (B * D' * K) + f * (B * B' * (B * D'))
       e6 = omega arith
+
       e7 : dist (A * D') (N' * B) * (B * B' * K) + (0 + f * (B * B' * (B * D'))) ≡ dist (A * D') (N' * B) * (B * B') * K + f * (B * B' * (B * D'))
       e7 = go (dist (A * D') (N' * B))
         where
@@ -108,18 +125,25 @@ module _ (A B A' B' N' D' f : ℕ) (lo : A' * D' * K ≤ N' * B' * K + f * (B' *
     where
       more : (x : ℕ) → x ≤ x + 0
       more x = omega arith
+
       e1 : dist (A * D') (N' * B) * (B * B') * K ≡ dist (A * D') (N' * B) * (B * B' * K)
       e1 = native.Mathlib.Nat.mul-assoc (dist (A * D') (N' * B)) (B * B') K
+
       e2 : A * B' * (B * D' * K) ≡ A * D' * (B * B' * K)
       e2 = omega arith
+
       e3 : A' * B * (B * D' * K) ≡ A' * D' * K * (B * B)
       e3 = omega arith
+
       e4 : (N' * B' * K + f * (B' * D')) * (B * B) ≡ N' * B * (B * B' * K) + f * (B * B' * (B * D'))
       e4 = omega arith
+
       e5 : N' * B * (B * B' * K) ≡ N' * B' * K * (B * B)
       e5 = omega arith
+
       e6 : (A' * D' * K + f * (B' * D')) * (B * B) ≡ A' * B * (B * D' * K) + f * (B * B' * (B * D'))
       e6 = omega arith
+
       e7 : dist (A * B') (A' * B) * (B * D' * K) + (0 + f * (B * B' * (B * D'))) ≡ dist (A * B') (A' * B) * (B * D') * K + f * (B * B' * (B * D'))
       e7 = go (dist (A * B') (A' * B))
         where
@@ -166,26 +190,31 @@ sized m e n d k x q = go (ltb a b) refl
   where
     a : ℕ
     a = m * up e * down d
+
     b : ℕ
     b = n * up d * down e
+
     c : ℕ
     c = down e * down d
+
     up-of : (a b : ℕ) → a < b → dist a b ≡ b - a
     up-of a b h = omega arith
+
     down-of : (a b : ℕ) → b ≤ a → dist a b ≡ a - b
     down-of a b h = omega arith
+
     go : (t : Bool) → ltb (m * up e * down d) (n * up d * down e) ≡ t → Sized (absf (cond (ltb (m * up e * down d) (n * up d * down e)) (round binary64 true (n * up d * down e - m * up e * down d) (down e * down d)) (round binary64 false (m * up e * down d - n * up d * down e) (down e * down d)))) (dist (m * up e * down d) (n * up d * down e)) (down e * down d)
     go true t =
         let y = round binary64 false (dist (m * up e * down d) (n * up d * down e)) (down e * down d) in
         let l : m * up e * down d < n * up d * down e = ltb→lt _ _ (subst T (sym t) tt) in
         let w : cond (ltb (m * up e * down d) (n * up d * down e)) (round binary64 true (n * up d * down e - m * up e * down d) (down e * down d)) (round binary64 false (m * up e * down d - n * up d * down e) (down e * down d)) ≡ neg y =
-            ap (λ (z : Bool). cond z (round binary64 true (n * up d * down e - m * up e * down d) (down e * down d)) (round binary64 false (m * up e * down d - n * up d * down e) (down e * down d))) t ∙ ap (λ (z : ℕ). round binary64 true z (down e * down d)) (sym (up-of (m * up e * down d) (n * up d * down e) l)) ∙ round-neg binary64 (dist (m * up e * down d) (n * up d * down e)) (down e * down d) in
+        ap (λ (z : Bool). cond z (round binary64 true (n * up d * down e - m * up e * down d) (down e * down d)) (round binary64 false (m * up e * down d - n * up d * down e) (down e * down d))) t ∙ ap (λ (z : ℕ). round binary64 true z (down e * down d)) (sym (up-of (m * up e * down d) (n * up d * down e) l)) ∙ round-neg binary64 (dist (m * up e * down d) (n * up d * down e)) (down e * down d) in
         record { v = y; is = refl; same = subst (λ (z : Float). (absf z ≡ y) ⊎ ((absf z ≡ fin true 0 (pos 0)) × (y ≡ fin false 0 (pos 0)))) (sym w) (size-minus y k x q (round-fits binary64 false (dist (m * up e * down d) (n * up d * down e)) (down e * down d))) }
     go false t =
         let y = round binary64 false (dist (m * up e * down d) (n * up d * down e)) (down e * down d) in
         let l : n * up d * down e ≤ m * up e * down d = nltb→le _ _ (subst (λ (z : Bool). T (not z)) (sym t) tt) in
         let w : cond (ltb (m * up e * down d) (n * up d * down e)) (round binary64 true (n * up d * down e - m * up e * down d) (down e * down d)) (round binary64 false (m * up e * down d - n * up d * down e) (down e * down d)) ≡ y =
-            ap (λ (z : Bool). cond z (round binary64 true (n * up d * down e - m * up e * down d) (down e * down d)) (round binary64 false (m * up e * down d - n * up d * down e) (down e * down d))) t ∙ ap (λ (z : ℕ). round binary64 false z (down e * down d)) (sym (down-of (m * up e * down d) (n * up d * down e) l)) in
+        ap (λ (z : Bool). cond z (round binary64 true (n * up d * down e - m * up e * down d) (down e * down d)) (round binary64 false (m * up e * down d - n * up d * down e) (down e * down d))) t ∙ ap (λ (z : ℕ). round binary64 false z (down e * down d)) (sym (down-of (m * up e * down d) (n * up d * down e) l)) in
         record { v = y; is = refl; same = inl (ap absf w ∙ size-plain y k x q) }
 
 -- ---- all of it
@@ -198,8 +227,10 @@ rest-form k n d = go piBot piTop
       where
         f1 : n * (4 * b) ≡ 2 * b * n * 2
         f1 = omega arith
+
         f2 : 2 * k * t * d ≡ k * (t * d) * 2
         f2 = omega arith
+
         f3 : (z : ℕ) → z * 2 * (2 * b * d) ≡ z * (d * (4 * b))
         f3 z = omega arith
 
@@ -220,12 +251,12 @@ cos-zero = refl
 
 made : (w : Float) (n c R D : ℕ) → Sized w n c → About (round binary64 false n c) R D 3 → Rested w R D
 made w n c R D s a = record {
-    v = s .v;
-    about = subst (λ (z : Float). About z R D 3) (sym (s .is)) a;
-    fit = subst (λ (z : Float). T (fits binary64 z)) (sym (s .is)) (round-fits binary64 false n c);
-    sin-same = alike sinPoly sin-zero (s .same);
-    cos-same = alike cosPoly cos-zero (s .same)
-  }
+  v = s .v;
+  about = subst (λ (z : Float). About z R D 3) (sym (s .is)) a;
+  fit = subst (λ (z : Float). T (fits binary64 z)) (sym (s .is)) (round-fits binary64 false n c);
+  sin-same = alike sinPoly sin-zero (s .same);
+  cos-same = alike cosPoly cos-zero (s .same);
+}
   where
     alike : (f : Float → Float) → f (fin true 0 (pos 0)) ≡ f (fin false 0 (pos 0)) → (w ≡ s .v) ⊎ ((w ≡ fin true 0 (pos 0)) × (s .v ≡ fin false 0 (pos 0))) → f w ≡ f (s .v)
     alike f z (inl e) = ap f e
@@ -240,10 +271,10 @@ module _ (m : ℕ) (e : ℤ) (hi : m * up e ≤ 16 * down e) where
       let A' = b .m * up (b .x') in
       let B' = down (b .x') in
       let r : About (round binary64 false (dist (A * B') (A' * B)) (B * B')) (dist (A * (4 * piBot)) (2 * k * piTop * B)) (B * (4 * piBot)) 3 =
-          about-round (dist (A * B') (A' * B)) (B * B') (dist (A * (4 * piBot)) (2 * k * piTop * B)) (B * (4 * piBot)) 2 (mul-pos (down-pos e) (down-pos (b .x')))
-          (near A B A' B' hi (small A' B' (b .low)))
-          (far-low A B A' B' (2 * k * piTop) (4 * piBot) 2 (b .low) (b .high))
-          (far-high A B A' B' (2 * k * piTop) (4 * piBot) 2 (b .low) (b .high)) in
+      about-round (dist (A * B') (A' * B)) (B * B') (dist (A * (4 * piBot)) (2 * k * piTop * B)) (B * (4 * piBot)) 2 (mul-pos (down-pos e) (down-pos (b .x')))
+      (near A B A' B' hi (small A' B' (b .low)))
+      (far-low A B A' B' (2 * k * piTop) (4 * piBot) 2 (b .low) (b .high))
+      (far-high A B A' B' (2 * k * piTop) (4 * piBot) 2 (b .low) (b .high)) in
       subst (λ (z : Float). Rested (absf (sub binary64 (fin false m e) z)) (restTop k A B) (restBot B)) (sym (b .is))
       (made (absf (sub binary64 (fin false m e) (fin false (b .m) (b .x')))) (dist (A * B') (A' * B)) (B * B') (restTop k A B) (restBot B) (sized m e (b .m) (b .x') (r .m) (r .x') (r .is))
       (about-same (dist (A * (4 * piBot)) (2 * k * piTop * B)) (B * (4 * piBot)) (restTop k A B) (restBot B) 3 (mul-pos (down-pos e) (lit< tt)) (rest-form k A B) r))
@@ -253,10 +284,13 @@ module _ (m : ℕ) (e : ℤ) (hi : m * up e ≤ 16 * down e) where
         where
           o1 : (B B' : ℕ) → 16 * B * B' ≡ 16 * (B * B')
           o1 B B' = omega arith
+
           o2 : (B B' : ℕ) → 17 * B' * B ≡ 17 * (B * B')
           o2 B B' = omega arith
+
           go : (x y z : ℕ) → x ≤ 16 * z → y ≤ 17 * z → dist x y ≤ 32 * z
           go x y z a b = omega arith
+
       small : (A' B' : ℕ) → A' * (4 * piBot) * K ≤ 2 * k * piTop * B' * K + 2 * (B' * (4 * piBot)) → A' ≤ 17 * B'
       small A' B' f = le-of-mul-le-mul-right {k = 4 * piBot * K} (le-trans (le-of-eq (sym (native.Mathlib.Nat.mul-assoc A' (4 * piBot) K))) (le-trans f (le-trans (add-le-add (mul-le-mul-right K (mul-le-mul-right B' (mul-le-mul-right piTop h))) (le-refl (2 * (B' * (4 * piBot))))) (cap B')))) (lit< tt)
         where
@@ -265,6 +299,7 @@ module _ (m : ℕ) (e : ℤ) (hi : m * up e ≤ 16 * down e) where
             where
               f1 : (t b B' : ℕ) → 20 * t * B' * K + 2 * (B' * (4 * b)) ≡ (20 * t * K + 8 * b) * B'
               f1 t b B' = omega arith
+
               f2 : (b B' : ℕ) → 17 * (4 * b * K) * B' ≡ 17 * B' * (4 * b * K)
               f2 b B' = omega arith
 
@@ -274,10 +309,13 @@ module _ (m : ℕ) (e : ℤ) (hi : m * up e ≤ 16 * down e) where
     where
       few : (q : ℕ) → q ≤ 20 → 2 * half q ≤ 20
       few q h = omega arith
+
       few' : (q : ℕ) → q ≤ 20 → even q ≤ 20
       few' q h = omega arith
+
       halves : (q : ℕ) → even q ≡ 2 * half q
       halves q = omega arith
+
       turned : (N k : ℕ) → N ≡ 2 * k → N ≤ 22 → About (times (ofInt binary64 (pos N)) (num 4605249457297304856)) (2 * k * piTop) (4 * piBot) 2
       turned N k q l = subst (λ (z : ℕ). About (times (ofInt binary64 (pos N)) (num 4605249457297304856)) (z * piTop) (4 * piBot) 2) q (whole N l)
         where

@@ -1,10 +1,10 @@
 -- A binary64 that is about a fraction, rounded to binary32, is within 2^-20 of the fraction. Assumes nothing.
-use mathlib.Core.Path.{_≡_, refl, sym, ap, ap₂, _∙_, subst}
-use mathlib.Core.Bool.{Bool, true, false, not, cond, true≢false}
-use Prim.Native.Nat.{ℕ, _+_, _-_, _*_, _^_, _≤_, _<_}
-use native.Mathlib.Nat.{add-le-add, le-refl, le-trans, le-of-eq, lt-of-le-of-lt, lt-of-lt-of-le, mul-comm, mul-one, one-mul, mul-pos, mul-le-mul, mul-le-mul-left, mul-le-mul-right, le-of-mul-le-mul-right, mul-lt-mul-of-pos-right, lt-irrefl}
+use mathlib.Core.Path.{_≡_, refl, sym, subst}
+use mathlib.Core.Bool.{Bool, true, false, cond, true≢false}
+use Prim.Native.Nat.{ℕ, _+_, _*_, _^_, _≤_, _<_}
+use native.Mathlib.Nat.{add-le-add, le-refl, le-trans, le-of-eq, lt-of-le-of-lt, lt-of-lt-of-le, mul-one, mul-pos, mul-le-mul-right, le-of-mul-le-mul-right, mul-lt-mul-of-pos-right}
 use native.Mathlib.Omega.{arith}
-use lib.Dec.{T, ltb, ltb→lt, lit<, lit≤}
+use lib.Dec.{T, ltb→lt, lit≤}
 use lib.Pow.{pow-pos}
 use lib.IntN.{ℤ, pos, negsuc}
 use lib.Ieee.{Float, nan, inf, fin, binary32, up, down, round, neg, le, lt}
@@ -42,10 +42,13 @@ near-value (fin false m e) s g A B t b bp v o lo hi = go s
   where
     low : m * up e * b * 8388608 ≤ t * down e * 8388608 + (6 + 1) * (down e * b)
     low = chain-low (m * up e) (down e) g (2 ^ 149) (2 ^ 126) A B t b 8388608 6 (pow-pos 149) bp (v .1) (o .low') (lit≤ tt) (coarse (A * b) (t * B) (B * b) lo)
+
     high : t * down e * 8388608 ≤ m * up e * b * 8388608 + (6 + 1) * (down e * b)
     high = chain-high (m * up e) (down e) g (2 ^ 149) (2 ^ 126) A B t b 8388608 6 (pow-pos 149) bp (v .1) (o .high') (lit≤ tt) (coarse (t * B) (A * b) (B * b) hi)
+
     fin' : dist (m * up e * b) (t * down e) * 1048576 ≤ down e * b
     fin' = eight (m * up e * b) (t * down e) (down e * b) low high
+
     go : (s : Bool) → within 1048576 (cond s (neg (fin false m e)) (fin false m e)) (ratio s t b)
     go true = fin'
     go false = fin'
@@ -74,6 +77,7 @@ module _ (m : ℕ) (x : ℤ) (t b : ℕ) (bp : 0 < b) (tb : t ≤ b) (lo : m * u
         where
           swap : (d M : ℕ) → 2 * d * M ≡ 2 * M * d
           swap d M = omega arith
+
       sgn : (s : Bool) → cond s (neg (round binary32 false (m * up x) (down x))) (round binary32 false (m * up x) (down x)) ≡ round binary32 s (m * up x) (down x)
       sgn true = sym (round-neg binary32 (m * up x) (down x))
       sgn false = refl
@@ -87,8 +91,10 @@ module _ (m : ℕ) (x : ℤ) (t b : ℕ) (bp : 0 < b) (tb : t ≤ b) (lo : m * u
         where
           f1 : 2 * B * (b * K) ≤ A * (b * K) → 2 * (B * b) * K ≤ A * b * K
           f1 f = omega arith
+
           f2 : t * (B * K) ≤ b * (B * K) → t * B * K ≤ B * b * K
           f2 f = omega arith
+
           fin' : (x y z : ℕ) → 0 < z → 2 * z * K ≤ x * K → x * K ≤ y * K + 2983 * z → y * K ≤ z * K → ⊥
           fin' x y z p q r s = omega arith
 
@@ -101,10 +107,13 @@ module _ (m : ℕ) (x : ℤ) (t b : ℕ) (bp : 0 < b) (tb : t ≤ b) (lo : m * u
         where
           f1 : A * 2 ^ 60 * b ≤ 1 * B * b → A * b * K ≤ B * b
           f1 f = omega arith
+
           f2 : t * K * B ≡ t * B * K
           f2 = omega arith
+
           f3 : B * b + 2983 * (B * b) ≡ 2984 * b * B
           f3 = omega arith
+
           add : A * b * K ≤ B * b → A * b * K + 2983 * (B * b) ≤ B * b + 2983 * (B * b)
           add h = add-le-add h (le-refl (2983 * (B * b)))
 
@@ -114,8 +123,10 @@ module _ (m : ℕ) (x : ℤ) (t b : ℕ) (bp : 0 < b) (tb : t ≤ b) (lo : m * u
     where
       below : lt (fin false m x) (fin false 1 (pos 1)) ≡ true → m * up x < 2 * down x
       below h = unfold lt in lt-of-le-of-lt (le-of-eq (sym (mul-one (m * up x)))) (ltb→lt (m * up x * 1) (2 * down x) (subst T (sym h) tt))
+
       above : lt (fin false m x) (fin false 1 (pos 1)) ≡ false → 2 * down x ≤ m * up x
       above h = unfold lt in le-trans (not-lt (m * up x * 1) (2 * down x) h) (le-of-eq (mul-one (m * up x)))
+
       go : (p q : Bool) → le (fin false 1 (negsuc 59)) (fin false m x) ≡ p → lt (fin false m x) (fin false 1 (pos 1)) ≡ q → within 1048576 (cond p (cond q (narrowed s (fin false m x)) plusZero) plusZero) (ratio s t b)
       go true true h k = kept s (below k)
       go true false h k = absurd (never (above k))

@@ -1,10 +1,10 @@
--- Below 2^-12 the sine is x itself and the cosine 1: both well within 2^-20 of S and C.
+-- Below 2^-12 the sine is x itself and the cosine 1: both well within 2^-20 of S and C. Assumes nothing.
 use mathlib.Core.Path.{_≡_, ap, refl, sym, _∙_, subst, subst₂}
 use Prim.Native.Nat.{ℕ, _+_, _*_, _≤_, _<_, zero-le}
 use native.Mathlib.Nat.{mul-le-mul-left, mul-le-mul, le-trans, le-of-eq, lt-of-le-of-lt, zero-mul, mul-le-mul-right, mul-lt-mul-of-pos-left, mul-pos, mul-assoc}
 use native.Mathlib.Omega.{arith}
 use mathlib.Core.Bool.{Bool, true, false}
-use mathlib.Core.List.{List, [], _∷_}
+use mathlib.Core.List.{List, _∷_, []}
 use lib.Dec.{ltb, lit<, lit≤}
 use lib.Ieee.{fin}
 use Rattle.angles.specs.Steps.{dist, sinDivs, cosDivs, xor}

@@ -1,4 +1,4 @@
--- The arctangent where y is zero, and all of it.
+-- The arctangent where y is zero, and all of it. Assumes nothing.
 use mathlib.Core.Path.{_≡_, sym, ap, _∙_, subst, refl, ap₂}
 use mathlib.Core.Bool.{Bool, true, false, cond, Bool·beq, _&&_}
 use Prim.Native.Nat.{ℕ, _+_, _*_, _≤_, max, _<_, zero-le, zero, suc}

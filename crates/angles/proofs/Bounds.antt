@@ -1,11 +1,11 @@
--- The bounds that the code's products and differences ask for.
+-- The bounds that the code's products and differences ask for. Assumes nothing.
 use Prim.Native.Nat.{ℕ, _*_, _^_, _≤_, _<_, _/_, _-_, _%_}
 use native.Mathlib.Nat.{lt-of-le-of-lt, mul-le-mul, le-trans, div-le-self, div-le-of-le-mul, le-refl, sub-le, mul-le-mul-left}
 use lib.Dec.{lit<, lit≤, eqb}
 use native.Mathlib.Omega.{arith}
 use mathlib.Core.Path.{_≡_, sym, ap, subst}
 use mathlib.Core.Bool.{cond}
-use mathlib.Core.List.{List, [], _∷_}
+use mathlib.Core.List.{List, _∷_, []}
 use Rattle.angles.specs.Steps.{rest, even, base, nest, sinDivs, square, sinFix, cosDivs, cosFix}
 
 pub level-mul : (t h : ℕ) → t ≤ 1073741824 → h ≤ 1073741824 → t * h < 2 ^ 64

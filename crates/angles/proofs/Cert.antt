@@ -1,5 +1,5 @@
 -- The certified guess: what the code asks on the way, and the steps, branch by branch. Assumes nothing.
-use mathlib.Core.Path.{_≡_, refl, sym, subst, ap, ap₂, _∙_}
+use mathlib.Core.Path.{_≡_, sym, subst, ap, ap₂, _∙_}
 use mathlib.Core.Bool.{false, true, true≢false, Bool, not, cond}
 use Prim.Native.Nat.{ℕ, zero, suc, _*_, _≤_, _/_, _<_}
 use lib.IntN.{ℤ}

@@ -1,7 +1,6 @@
 -- The steps of the arctangent's guess, branch by branch: what the code's proofs cite. Assumes nothing.
-use mathlib.Core.Path.{_≡_, refl, sym, ap, ap₂, _∙_}
+use mathlib.Core.Path.{_≡_, sym, ap, ap₂, _∙_}
 use mathlib.Core.Bool.{Bool, true, false, cond}
-use Prim.Native.Nat.{ℕ}
 use lib.Ieee.{Float, lt}
 use Rattle.angles.specs.Guess.{num, plus, less, times, over, tailOf, raisedOf, loweredOf, atanLow, atanHigh, atanGuess, arcGuess}
 

@@ -1,5 +1,5 @@
 -- A float from -16 to 16: its size, and what that is in units of 2^-40. Assumes nothing.
-use mathlib.Core.Bool.{Bool, true, false, _||_, _&&_, not, cond}
+use mathlib.Core.Bool.{Bool, true, false, _&&_, not, cond, _||_}
 use mathlib.Core.Logic.{_⊎_, inl, inr}
 use lib.Dec.{T, ltb, eqb, ltb→lt, nltb→le, eqb→eq}
 use Prim.Native.Nat.{ℕ, _*_, _/_, _≤_, _<_}
@@ -7,7 +7,7 @@ use native.Mathlib.Nat.{le-trans, le-of-eq, le-of-lt, le-of-mul-le-mul-right, di
 use lib.Ieee.Fits.{and-l, and-r, down-pos}
 use mathlib.Core.Path.{_≡_, sym, subst}
 use native.Mathlib.Omega.{arith}
-use lib.IntN.{ℤ, pos}
+use lib.IntN.{ℤ}
 use lib.Ieee.{Float, nan, inf, fin, up, down, neg, lt, le}
 use lib.Ieee.Scale.{finite}
 use Rattle.bits.specs.Parts.{places}

@@ -9,7 +9,7 @@ use native.Mathlib.Nat.{lt-irrefl, lt-of-lt-of-le, lt-of-le-of-lt, add-zero, le-
 use native.Mathlib.Omega.{arith}
 use mathlib.Core.Logic.{_⊎_, inr, inl}
 use native.Mathlib.Numerals.{add-one}
-use Rattle.angles.specs.Steps.{bound, base, even, rest, scan}
+use Rattle.angles.specs.Steps.{bound, rest, scan}
 use Rattle.angles.proofs.Bounds.{rest-even, rest-odd}
 
 leb-yes : (a b : ℕ) → a ≤ b → leb a b ≡ true

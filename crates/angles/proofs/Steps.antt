@@ -1,9 +1,9 @@
--- The steps, branch by branch: what the code's proofs cite.
+-- The steps, branch by branch: what the code's proofs cite. Assumes nothing.
 use mathlib.Core.Path.{_≡_, refl, sym, ap, ap₂, _∙_, subst}
 use mathlib.Core.Bool.{Bool, true, cond, false, not, true≢false}
 use Prim.Native.Nat.{ℕ, zero, suc, _+_, _-_, _/_, min, _≤_, _<_, _*_, _^_}
-use lib.Ieee.{Float, neg, lt, eq, binary32, mul, ofInt, le, fin, toUnsigned, round, div}
-use lib.IntN.{pos, negsuc}
+use lib.Ieee.{Float, neg, lt, eq, binary32, mul, ofInt, le}
+use lib.IntN.{pos}
 use native.Mathlib.Omega.{arith}
 use lib.Dec.{leb, le→leb, T, leb→le, not-T, lit≤, lit<}
 use lib.Ieee.Bits.{is-true, is-false}

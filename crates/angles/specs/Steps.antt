@@ -2,7 +2,7 @@
 use mathlib.Core.Bool.{Bool, not, Bool·beq, true, false, cond}
 use Prim.Native.Nat.{ℕ, _+_, _-_, _*_, _/_, zero, suc, _%_}
 use lib.Dec.{leb, eqb}
-use mathlib.Core.List.{List, [], _∷_}
+use mathlib.Core.List.{List, _∷_, []}
 
 -- one of the two, and not both
 abbrev pub xor : Bool → Bool → Bool

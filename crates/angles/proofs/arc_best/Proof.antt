@@ -6,7 +6,7 @@ use lib.Dec.{lit≤}
 use lib.Ieee.{ofBits}
 use borrow.Author.Needs.{needs}
 use Rattle.angles.specs.Arc.{magf}
-use Rattle.angles.proofs.Sides.{Asks, flat-of, steep-of}
+use Rattle.angles.proofs.Sides.{flat-of, steep-of}
 use Rattle.angles.proofs.Cert.{mag-not, best-yes, best-no}
 use Rattle.angles.proofs.arc_best.Statement.{statement}
 use Rattle.angles.proofs.arc_best.Tie as tie

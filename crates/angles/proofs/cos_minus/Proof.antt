@@ -1,5 +1,4 @@
 -- `angles::cos_minus` meets its contract. Assumes nothing.
-use borrow.Author.Needs.{needs}
 use Rattle.angles.proofs.Waves.{cos-minus-last}
 use Rattle.angles.proofs.cos_minus.Statement.{statement}
 use Rattle.angles.proofs.cos_minus.Tie as tie

@@ -1,5 +1,5 @@
 -- `angles::on_grid` meets its contract. Assumes nothing.
-use mathlib.Core.Path.{_≡_, refl, sym, ap, ap₂, _∙_, subst}
+use mathlib.Core.Path.{sym, subst}
 use Prim.Native.Nat.{ℕ, _<_}
 use Rattle.angles.specs.Steps.{rest}
 use Rattle.angles.specs.Arc.{gridTest}
@@ -9,13 +9,6 @@ use native.Mathlib.Omega.{arith}
 use borrow.Author.Needs.{needs}
 use Rattle.angles.proofs.on_grid.Statement.{statement}
 use Rattle.angles.proofs.on_grid.Tie as tie
-use Rattle.angles.proofs.on_grid.Reads as reads
-use Rattle.angles.proofs.on_grid.Lts as lts
-use Rattle.angles.proofs.cos_fix.Reads as cos-fix-reads
-use Rattle.angles.proofs.eighth.Reads as eighth-reads
-use Rattle.angles.proofs.on_turn.Reads as on-turn-reads
-use Rattle.angles.proofs.rest_of.Reads as rest-of-reads
-use Rattle.angles.proofs.sin_fix.Reads as sin-fix-reads
 
 eighth-requires : tie.Need-eighth-requires
 eighth-requires c κs = search needs

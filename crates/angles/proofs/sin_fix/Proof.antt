@@ -1,8 +1,5 @@
 -- `angles::sin_fix` meets its contract: the calls of `level` are the levels of `nest`. Assumes nothing.
-use mathlib.Core.Path.{_≡_, refl, sym, ap, _∙_, subst}
-use native.Mathlib.Omega.{arith}
 use lib.Dec.{lit≤}
-use Rattle.angles.specs.Steps.{nest}
 use Rattle.angles.specs.Steps.{sinFix}
 use Rattle.angles.proofs.Bounds.{square-mul, square-le, sin-mul, level-le}
 use Rattle.angles.proofs.sin_fix.Statement.{statement}

@@ -1,5 +1,4 @@
 -- `angles::sin_minus` meets its contract. Assumes nothing.
-use borrow.Author.Needs.{needs}
 use Rattle.angles.proofs.Waves.{sin-minus-last}
 use Rattle.angles.proofs.sin_minus.Statement.{statement}
 use Rattle.angles.proofs.sin_minus.Tie as tie
