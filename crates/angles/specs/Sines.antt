@@ -97,7 +97,7 @@ cosMinus (suc zero) down = not down
 cosMinus (suc (suc zero)) down = true
 cosMinus (suc (suc (suc k))) down = down
 
--- ± v, rounded to binary32. (v is always from 2^-60 to below 2; elsewhere this would be +0.)
+-- ± v, rounded to binary32, for v from 2^-60 to below 2; elsewhere +0, which the bounds allow for
 unfoldable pub single : Bool → Float → Float
 unfolding le lt narrowed
 single minus v = cond (le (fin false 1 (negsuc 59)) v) (cond (lt v (fin false 1 (pos 1))) (narrowed minus v) plusZero) plusZero
