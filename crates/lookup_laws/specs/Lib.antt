@@ -1,1 +1,2 @@
 pub mod Loaded
+pub mod Clamp
