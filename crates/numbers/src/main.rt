@@ -3,11 +3,13 @@
 // A value is printed as the eight digits of its bits, a NaN as 7fc00000. A verdict is `fine`, or
 // `refused` with document 01's number and place.
 mod calls;
+mod leaves;
 mod ranges;
 mod show;
 mod triplets;
 
 fn main() {
+    leaves::tries();
     ranges::tries();
     calls::tries();
     triplets::tries();
