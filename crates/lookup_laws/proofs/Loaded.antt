@@ -1,7 +1,6 @@
 -- THE THEOREMS on a loaded set: its links are those of the bare tree filled in place order, and what that means for a search. Assumes nothing.
 use mathlib.Core.Path.{_≡_, refl, sym, ap, _∙_, subst}
-use mathlib.Core.Logic.{_⊎_, inl, inr}
-use mathlib.Core.Bool.{Bool, true, false, cond, not}
+use mathlib.Core.Bool.{Bool, true, false, cond}
 use mathlib.Core.List.{List, [], _∷_, _++_}
 use Prim.Native.Nat.{ℕ, zero, suc, _+_, _*_, _-_, _<_, _≤_}
 use native.Mathlib.Omega.{arith}
@@ -9,37 +8,31 @@ use native.Mathlib.Numerals.{add-one}
 use lib.ListN.{length, getD, set, replicate, length-replicate, List·getD-append}
 use lib.Seq.{set-getD, getD-append-seam}
 use lib.Dec.{T, eqb, ltb, ltb→lt, lt→ltb}
-use lib.Ieee.{Float, nan, lt}
+use lib.Ieee.{Float, nan}
 use borrow.Author.Tests.{lt-ltb, ne-eqb}
 use Rattle.lists.specs.Over.{over, upto}
 use Rattle.lists.proofs.Laws.{over-nil, length-over, length-upto, upto-more}
 use Rattle.points.specs.declared.Point3.{Point3}
-use Rattle.points.specs.Points.{pointAt, distSq}
+use Rattle.points.specs.Points.{pointAt}
 use Rattle.kdtree.specs.declared.BoundingBox.{BoundingBox}
 use Rattle.kdtree.specs.declared.Best.{Best}
 use Rattle.kdtree.specs.declared.Searched.{Searched}
 use Rattle.kdtree.specs.declared.Searched.the-variants.{Found, Stopped}
 use Rattle.kdtree.specs.declared.Slot.{Slot}
 use Rattle.kdtree.specs.declared.Slot.the-variants as slots
-use Rattle.kdtree.specs.declared.Inserted.{Inserted}
 use Rattle.kdtree.specs.declared.Inserted.the-variants as inserted
-use Rattle.kdtree.specs.declared.Named.the-variants as named
 use Rattle.kdtree.specs.Geometry.{boxAt, grown}
 use Rattle.kdtree.specs.Tree.{Tree, subtree}
 use Rattle.kdtree.specs.Search.{search}
 use Rattle.kdtree.specs.Unpruned.{size}
-use Rattle.kdtree.specs.Insert.{Lists, listsOf, Stored, storedAs, slotIn, written, linkedLeft, linkedRight, bySlot, insertOf}
+use Rattle.kdtree.specs.Insert.{Lists, listsOf, Stored, storedAs, written, linkedLeft, linkedRight, bySlot, insertOf}
 use Rattle.kdtree.specs.Nearest.{startOf, placeOf}
 use Rattle.kdtree.proofs.Nodes.{subtree-below, found-below}
 use Rattle.kdtree.proofs.Whole as whole
-use Rattle.walks.specs.Demand3.{Numbered, NotNearer, Finite, Each, In, Bare, empty, kept, fill, insertInto, Accepted, RoomFor, nearestIn, walkNames}
+use Rattle.walks.specs.Demand3.{Numbered, Bare, kept, fill, insertInto, Accepted}
 use Rattle.walks.proofs.Rep.{rep-at}
-use Rattle.walks.proofs.Lists.{each-in}
 use Rattle.walks.proofs.Filled.{Filled, Next, first, next, root-clean}
-use Rattle.walks.proofs.Demand3 as demand
 use Rattle.lookup.specs.declared.Lookup.{Lookup}
-use Rattle.lookup.specs.declared.Located.{Located}
-use Rattle.lookup.specs.declared.Located.the-variants.{At, Refused}
 use Rattle.lookup.specs.Build.{Links, linksOf, ownedBy, slotAt, ownedAt, linked, overBoth, boxTo, boxOf}
 use Rattle.lookup.specs.Lookup.{clampedBy, locatedAs, locateOf}
 use Rattle.lookup.proofs.Links.{linked-left, linked-right, turn-over, root-over}

@@ -2,10 +2,10 @@
 use mathlib.Core.Path.{_≡_, refl, sym, ap, _∙_, subst}
 use mathlib.Core.Logic.{_⊎_, inl, inr}
 use mathlib.Core.Bool.{Bool, true, false, not}
-use mathlib.Core.List.{List, [], _∷_}
-use Prim.Native.Nat.{ℕ, zero, suc, _+_, _*_, _<_, _≤_}
+use mathlib.Core.List.{List, _∷_}
+use Prim.Native.Nat.{ℕ, zero, suc, _+_, _<_, _≤_}
 use native.Mathlib.Omega.{arith}
-use lib.ListN.{length, getD, replicate, length-replicate}
+use lib.ListN.{length, replicate, length-replicate}
 use lib.Dec.{T, ltb, ltb→lt, lt→ltb}
 use lib.Ieee.{Float, lt}
 use Rattle.lists.specs.Over.{over, upto}
@@ -13,13 +13,10 @@ use Rattle.lists.proofs.Laws.{length-over, length-upto}
 use Rattle.points.specs.declared.Point3.{Point3}
 use Rattle.points.specs.Points.{pointAt, distSq}
 use Rattle.kdtree.specs.declared.BoundingBox.{BoundingBox}
-use Rattle.kdtree.specs.declared.Named.{Named}
 use Rattle.kdtree.specs.declared.Named.the-variants.{Number}
-use Rattle.kdtree.specs.declared.Searched.{Searched}
-use Rattle.kdtree.specs.declared.Searched.the-variants.{Found}
 use Rattle.kdtree.specs.Geometry.{boxAt}
 use Rattle.kdtree.specs.Insert.{Lists, listsOf}
-use Rattle.kdtree.specs.Nearest.{placeOf, numberOf, nearestOf}
+use Rattle.kdtree.specs.Nearest.{placeOf, numberOf}
 use Rattle.kdtree.proofs.Whole as whole
 use Rattle.walks.specs.Demand3.{Numbered, NotNearer, Finite, Each, In, Bare, RoomFor, nearestIn, walkNames}
 use Rattle.walks.proofs.Lists.{each-in}
@@ -30,7 +27,7 @@ use Rattle.lookup.specs.declared.Located.the-variants.{At}
 use Rattle.lookup.specs.Build.{Links, linked, boxOf}
 use Rattle.lookup.specs.Lookup.{clampedBy, locatedAs, locateOf}
 use Rattle.lookup.proofs.Links.{linked-left, linked-right}
-use Rattle.lookup_laws.specs.Loaded.{placed, placedFrom, Room, lent, filledWith}
+use Rattle.lookup_laws.specs.Loaded.{placed, placedFrom, Room, filledWith}
 use Rattle.lookup_laws.proofs.Loaded as built
 
 -- ---- lists of measurements in place order
