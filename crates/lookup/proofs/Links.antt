@@ -18,7 +18,7 @@ use Rattle.kdtree.specs.Tree.{Tree, node, linkOf, sideOf, subtree}
 use Rattle.kdtree.specs.Insert.{slotIn}
 use Rattle.kdtree.proofs.Step.{Said, said, said-gone, said-bad, said-to}
 use Rattle.kdtree.proofs.Nodes.{subtree-below, slot-below, OwnerBelow}
-use Rattle.lookup.specs.Build.{Links, linksOf, ownedBy, slotAt, ownedAt, withLeaf, linked, overBoth}
+use Rattle.lookup.specs.Build.{Links, linksOf, ownedBy, slotAt, ownedAt, linked, overBoth}
 
 -- ---- lists that agree below the count draw the same tree
 

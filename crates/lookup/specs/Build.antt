@@ -5,7 +5,6 @@ use lib.ListN.{set}
 use lib.Ieee.{Float, binary32, ofBits}
 use Rattle.floats.specs.Floats.{minOf, maxOf}
 use Rattle.lists.specs.Over.{over}
-use Rattle.points.specs.declared.Point3.{Point3}
 use Rattle.points.specs.Points.{pointAt}
 use Rattle.kdtree.specs.declared.BoundingBox.{BoundingBox}
 use Rattle.kdtree.specs.declared.Slot.{Slot}

@@ -29,7 +29,7 @@ use Rattle.lookup_laws.specs.Clamp.{Values, FiniteValues, zeroLike, Radi
 -- ---- values that are finite and not negative
 
 -- what is not negative and at most a finite value is a magnitude
-bounded : (x y : Float) → T (nonneg x) → T (finite y) → T (le x y) → T (magnitude x)
+pub bounded : (x y : Float) → T (nonneg x) → T (finite y) → T (le x y) → T (magnitude x)
 unfolding le lt eq
 bounded nan y p f h = absurd p
 bounded (inf true) y p f h = absurd p
@@ -44,7 +44,7 @@ magnitude-nonneg nan p = absurd p
 magnitude-nonneg (inf s) p = absurd p
 magnitude-nonneg (fin s m e) p = p
 
-magnitude-finite : (x : Float) → T (magnitude x) → T (finite x)
+pub magnitude-finite : (x : Float) → T (magnitude x) → T (finite x)
 magnitude-finite nan p = absurd p
 magnitude-finite (inf s) p = absurd p
 magnitude-finite (fin s m e) p = tt
@@ -157,10 +157,10 @@ tiny-least (fin false (suc m) e) w p = cross→le tiny (fin false (suc m) e) tt 
         one-mul-one d = omega arith
 
 module _ (x y z : Float) (fx : T (finite x)) (fy : T (finite y)) (fz : T (finite z)) where
-  abbrev sum : Float
+  abbrev pub sum : Float
   sum = add binary32 (add binary32 (mul binary32 x x) (mul binary32 y y)) (mul binary32 z z)
 
-  sum-nonneg : T (nonneg sum)
+  pub sum-nonneg : T (nonneg sum)
   sum-nonneg =
       add-nonneg binary32 (add binary32 (mul binary32 x x) (mul binary32 y y)) (mul binary32 z z)
       (add-nonneg binary32 (mul binary32 x x) (mul binary32 y y) (sq-nonneg binary32 x (finite-number x fx)) (sq-nonneg binary32 y (finite-number y fy)))
@@ -204,18 +204,18 @@ root-of (fin false zero e) least w p q a b = absurd (none e (unfold rootOf lt in
 root-of (fin false (suc m) e) least w p q a b = lt→ltb 0 (suc m) (omega arith)
 
 -- the size of a finite value
-abbrev size : Float → Float
+abbrev pub size : Float → Float
 size nan = nan
 size (inf s) = inf false
 size (fin s m e) = fin false m e
 
-size-square : (x : Float) → T (finite x) → mul binary32 (size x) (size x) ≡ mul binary32 x x
+pub size-square : (x : Float) → T (finite x) → mul binary32 (size x) (size x) ≡ mul binary32 x x
 size-square nan f = absurd f
 size-square (inf s) f = absurd f
 size-square (fin false m e) f = refl
 size-square (fin true m e) f = sym (unfold neg in sq-neg binary32 (fin false m e))
 
-size-magnitude : (x : Float) → T (finite x) → T (magnitude (size x))
+pub size-magnitude : (x : Float) → T (finite x) → T (magnitude (size x))
 size-magnitude nan f = absurd f
 size-magnitude (inf s) f = absurd f
 size-magnitude (fin s m e) f = tt

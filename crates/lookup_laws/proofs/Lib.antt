@@ -2,3 +2,4 @@ pub mod Answered
 pub mod Loaded
 pub mod Nearest
 pub mod Clamp
+pub mod Bounds

@@ -4,10 +4,9 @@ use mathlib.Core.List.{List, [], _∷_}
 use Prim.Native.Nat.{ℕ, zero, suc, _*_, _<_, _≤_}
 use lib.ListN.{length, replicate}
 use lib.Ieee.{Float}
-use Rattle.points.specs.declared.Point3.{Point3}
 use Rattle.points.specs.Points.{pointAt}
 use Rattle.kdtree.specs.Geometry.{boxAt}
-use Rattle.kdtree.specs.Insert.{Lists, listsOf}
+use Rattle.kdtree.specs.Insert.{listsOf}
 use Rattle.walks.specs.Demand3.{Numbered, Bare, empty, fill}
 use Rattle.lookup.specs.declared.Located.{Located}
 use Rattle.lookup.specs.declared.Located.the-variants.{At}

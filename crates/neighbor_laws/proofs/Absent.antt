@@ -1,5 +1,5 @@
 -- Over a loaded set an entry is absent exactly if no step before the end gives a number other than its own. Assumes nothing.
-use mathlib.Core.Path.{_≡_, refl, sym, ap, _∙_, subst}
+use mathlib.Core.Path.{_≡_, refl, sym, ap, _∙_}
 use mathlib.Core.Bool.{Bool, true, false, cond}
 use mathlib.Core.List.{List}
 use Prim.Native.Nat.{ℕ, zero, suc, _+_, _<_, _≤_}
@@ -12,10 +12,10 @@ use Rattle.coords.specs.declared.Spherical.{Spherical}
 use Rattle.coords.specs.Coords.{cartesianOf}
 use Rattle.lookup.specs.declared.Lookup.{Lookup}
 use Rattle.lookup.specs.declared.Located.{Located}
-use Rattle.lookup.specs.declared.Located.the-variants.{At, Refused}
+use Rattle.lookup.specs.declared.Located.the-variants.{At}
 use Rattle.lookup.specs.Build.{Links, linked}
 use Rattle.lookup.specs.Lookup.{locateOf}
-use Rattle.lookup_laws.specs.Loaded.{Room, Below}
+use Rattle.lookup_laws.specs.Loaded.{Room}
 use Rattle.lookup_laws.proofs.Loaded.{never-refused}
 use Rattle.neighbors.specs.Neighbors.{moved, leaves, unlessOwn, going, directionOf}
 

@@ -1,16 +1,14 @@
 -- THE THEOREM on a loaded set's table: it is filled whole, never refused, with entries that are absent or name another measurement. Assumes nothing.
-use mathlib.Core.Path.{_≡_, refl, sym, ap, _∙_, subst}
-use mathlib.Core.Logic.{_⊎_, inl, inr}
+use mathlib.Core.Path.{_≡_, refl, sym, subst}
+use mathlib.Core.Logic.{inl, inr}
 use mathlib.Core.Bool.{Bool, true, false, cond}
 use mathlib.Core.List.{List}
-use Prim.Native.Nat.{ℕ, zero, suc, _+_, _*_, _/_, _%_, _<_, _≤_}
-use native.Mathlib.Omega.{arith}
+use Prim.Native.Nat.{ℕ, zero, suc, _+_, _*_, _/_, _%_, _≤_}
 use lib.Dec.{T, eqb, eqb→eq}
 use lib.Ieee.Fits.{eq→eqb}
 use lib.ListN.{length}
 use lib.Ieee.{Float}
 use Rattle.lists.specs.Over.{over, upto}
-use Rattle.points.specs.declared.Point3.{Point3}
 use Rattle.points.specs.Points.{pointAt}
 use Rattle.coords.specs.declared.Spherical.{Spherical}
 use Rattle.coords.specs.Coords.{sphericalOf, cartesianOf}
@@ -24,7 +22,7 @@ use Rattle.lookup_laws.specs.Loaded.{Room, Below}
 use Rattle.lookup_laws.proofs.Loaded.{never-refused}
 use Rattle.neighbors.specs.Neighbors.{moved, leaves, stepOf, capOf, unlessOwn, going, directionOf, neighborOf, entryOf, tabledAs, tableOf}
 use Rattle.neighbors.proofs.Table.{all-answered}
-use Rattle.neighbor_laws.specs.Settled.{Entry, Settles}
+use Rattle.neighbor_laws.specs.Settled.{Settles}
 
 module _ (xs : List Float) (m : ℕ) (d : Links) (room : Room xs m d) (look : Lookup) where
   abbrev left : List ℕ

@@ -9,7 +9,7 @@ use lib.Dec.{T, eqb, ltb, eqb→eq, ltb→lt}
 use lib.IntN.{ℤ, pos}
 use lib.Ieee.{Float, nan, inf, fin, binary32, up, down, add, mul, round, eq, le, fits, ofInt}
 use lib.Ieee.Fits.{and-l, up-pos, down-pos}
-use lib.Ieee.Scale.{finite, round-same}
+use lib.Ieee.Scale.{round-same}
 use Rattle.floats.specs.Floats.{zero32}
 use Rattle.floats.proofs.Sign.{nonneg, round-nonneg}
 use Rattle.floats.proofs.Ratio.{round-le}
