@@ -21,7 +21,7 @@ same-length : tie.Need-same-length
 same-length c = search needs
 
 returns : tie.Need-returns
-returns c = 
+returns c =
     let j = c .before .before in
     let a = j .before .before .before .args in
     stays (a .kind) (now (a .values)) (j .judge-values .result) (j .judge-values .ensures) _ _ (c .enum-told2 .given .1)
@@ -33,7 +33,7 @@ same-length-2 : tie.Need-same-length-2
 same-length-2 c = search needs
 
 returns-2 : tie.Need-returns-2
-returns-2 c = 
+returns-2 c =
     let d = c .before .before in
     let t = d .before .before in
     let j = t .before .before in

@@ -14,9 +14,10 @@ use Rattle.coords.proofs.convert_triplets.Lts as lts
 use Rattle.coords.proofs.turn_at.Reads as turn-at-reads
 
 abbrev Inv-loop : tie.InvT-loop
-Inv-loop kind values₀ whole i₀ values i = 
+Inv-loop kind values₀ whole i₀ values i =
     (i ≤ length values₀ - length values₀ % 3) × (i % 3 ≡ 0) × (length values ≡ length values₀)
     × (take i values ++ byTriplets (turned kind) (drop i values) ≡ byTriplets (turned kind) values₀)
+
 abbrev μ-loop : tie.MeasureT-loop
 μ-loop kind values₀ whole i₀ values i = whole - i
 
@@ -60,7 +61,7 @@ loop-less : tie.Need-loop-less Inv-loop μ-loop
 loop-less c = search needs
 
 loop-again : tie.Need-loop-again Inv-loop μ-loop
-loop-again c = 
+loop-again c =
     let l = c .before .before .before in
     let a = l .before .before .args in
     let i = l .loop .i in
@@ -76,7 +77,7 @@ same-length : tie.Need-same-length Inv-loop μ-loop
 same-length c = search needs
 
 returns : tie.Need-returns Inv-loop μ-loop
-returns c = 
+returns c =
     let l = c .before .loop in
     sym (done (turned (c .before .before .before .args .kind)) (l .values) (l .i) (omega arith)) ∙ l .inv .3
 
