@@ -1,0 +1,155 @@
+-- Document 01's "Blend": which points are blended with which weights, which delays are meant, and what a filter query then answers and writes.
+-- Definitions only.
+use Prim.Native.Nat.{ℕ, _+_, _*_}
+use mathlib.Core.Bool.{Bool, true, false, cond, _&&_}
+use mathlib.Core.List.{List, [], _∷_, _++_, map}
+use lib.Dec.{eqb, leb, ltb}
+use lib.ListN.{length, getD, replicate}
+use lib.Ieee.{Float, nan, ofBits, add, div, lt, binary32}
+use Rattle.floats.specs.Floats.{zero32, one32}
+use Rattle.points.specs.declared.Point3.{Point3}
+use Rattle.points.specs.Points.{pointAt, distSq}
+use Rattle.root.specs.Root.{rootOf}
+use Rattle.delays.specs.declared.Samples.{Samples}
+use Rattle.delays.specs.declared.Outcome.{Outcome}
+use Rattle.delays.specs.declared.Outcome.the-variants.{Exact, Blended, Refused}
+use Rattle.delays.specs.Delays.{secondsOf}
+use Rattle.mix.specs.declared.Share.{Share}
+use Rattle.mix.specs.Mix.{sums, tapOf, sampleOf, outOf}
+use Rattle.interpolate.specs.declared.Closest.{Closest}
+use Rattle.interpolate.specs.declared.Neighbors.{Neighbors}
+use Rattle.interpolate.specs.declared.Stride.{Stride}
+
+-- the f32 nearest to 1e-6 and to 1e-10, and the largest f32
+abbrev pub close32 : Float
+close32 = ofBits binary32 0x358637bd
+
+abbrev pub tiny32 : Float
+tiny32 = ofBits binary32 0x2edbe6ff
+
+abbrev pub largest32 : Float
+largest32 = ofBits binary32 0x7f7fffff
+
+-- the number of an entry that is absent
+abbrev pub absent : ℕ
+absent = 65535
+
+-- how far measurement k is from the query
+unfoldable pub distanceOf : List Float → Point3 → ℕ → Float
+distanceOf cart q k = rootOf (distSq (pointAt cart k) q)
+
+-- ---- a pair of neighbours, where d k is how far measurement k is
+-- an entry is absent or a measurement
+unfoldable pub known : ℕ → ℕ → Bool
+known m k = cond (eqb k absent) true (ltb k m)
+
+-- entry k beside the closest so far: it wins where it is there and strictly closer, so that the first listed keeps a tie
+unfoldable pub closer : (ℕ → Float) → Closest → ℕ → Closest
+closer d best k = cond (eqb k absent) best (cond (lt (d k) (best .dist)) (record { number = k; dist = d k }) best)
+
+-- nothing yet
+abbrev pub nothing : Closest
+nothing = record { number = absent; dist = largest32 }
+
+-- the weight is 1 / distance
+abbrev pub shareOf : ℕ → Float → Share
+shareOf k d = record { number = k; weight = div binary32 one32 d }
+
+-- "taken only if above 1e-10 and below the largest f32"
+unfoldable pub taken : Closest → List Share
+taken b = cond (lt (b .dist) largest32 && lt tiny32 (b .dist)) (shareOf (b .number) (b .dist) ∷ []) []
+
+unfoldable pub pairOf : (ℕ → Float) → ℕ → ℕ → List Share
+pairOf d a b = taken (closer d (closer d nothing a) b)
+
+-- ---- the points, in order: the nearest k, then the closer of each pair
+abbrev pub entry : List ℕ → ℕ → ℕ → ℕ
+entry near k j = getD near (6 * k + j) 0
+
+abbrev pub neighborsOf : List ℕ → ℕ → Neighbors
+neighborsOf near k = record { «phi_plus» = entry near k 0; «phi_minus» = entry near k 1; «theta_plus» = entry near k 2; «theta_minus» = entry near k 3; «radius_plus» = entry near k 4; «radius_minus» = entry near k 5 }
+
+-- all six are met, the second of a pair too
+unfoldable pub allKnown : ℕ → Neighbors → Bool
+allKnown m s = known m (s .«phi_plus») && known m (s .«phi_minus») && known m (s .«theta_plus») && known m (s .«theta_minus») && known m (s .«radius_plus») && known m (s .«radius_minus»)
+
+unfoldable pub pointsOf : (ℕ → Float) → Neighbors → ℕ → List Share
+pointsOf d s k = (((shareOf k (d k) ∷ []) ++ pairOf d (s .«phi_plus») (s .«phi_minus»)) ++ pairOf d (s .«theta_plus») (s .«theta_minus»)) ++ pairOf d (s .«radius_plus») (s .«radius_minus»)
+
+-- the weights, added up from +0 in order
+unfoldable pub totalFrom : Float → List Share → Float
+totalFrom s [] = s
+totalFrom s (p ∷ ps) = totalFrom (add binary32 s (p .weight)) ps
+
+abbrev pub totalOf : List Share → Float
+totalOf ps = totalFrom zero32 ps
+
+-- a weight divided by the sum
+abbrev pub part : Float → Share → Share
+part s p = record { number = p .number; weight = div binary32 (p .weight) s }
+
+-- ---- delays, in samples, for receiver e
+-- where measurement k's stands: at k * times + plus, or nowhere
+abbrev pub at : ℕ → ℕ → Stride
+at times plus = record { some = true; times = times; plus = plus }
+
+abbrev pub nowhere : Stride
+nowhere = record { some = false; times = 0; plus = 0 }
+
+-- "by their count L: L = M, one per measurement for both ears; else L ≥ M·R, per measurement and receiver; else L ≥ R, first two for all; else 0"
+unfoldable pub strideOf : ℕ → ℕ → ℕ → ℕ → Stride
+strideOf len m r e = cond (eqb len m) (at 1 0) (cond (leb (m * r) len) (at r e) (cond (leb r len) (at 0 e) nowhere))
+
+abbrev pub delayAt : List Float → Stride → ℕ → Float
+delayAt delays s k = getD delays (k * s .times + s .plus) nan
+
+-- measurement k's, and that of weighed points
+unfoldable pub plainDelay : List Float → ℕ → ℕ → ℕ → ℕ → Samples
+plainDelay delays m r e k = let s = strideOf (length delays) m r e in record { 0 = cond (s .some) (delayAt delays s k) zero32 }
+
+unfoldable pub blendDelay : List Float → ℕ → ℕ → ℕ → List Share → Samples
+blendDelay delays m r e ps = let s = strideOf (length delays) m r e in record { 0 = cond (s .some) (sums (delayAt delays s) zero32 ps) zero32 }
+
+-- ---- what a filter query answers and what its two outputs then hold
+pub record Filter : Type 0 where
+  pub answer : Outcome
+  pub left : List Float
+  pub right : List Float
+
+abbrev pub filterOf : Outcome → List Float → List Float → Filter
+filterOf o l r = record { answer = o; left = l; right = r }
+
+unfoldable pub pick : Bool → Filter → Filter → Filter
+pick true a b = a
+pick false a b = b
+
+-- refused: every sample of outputs of these two lengths is +0
+abbrev pub refusedOf : ℕ → ℕ → ℕ → ℕ → Filter
+refusedOf number place ll rl = record { answer = Refused number place; left = replicate ll zero32; right = replicate rl zero32 }
+
+module _ (m r n : ℕ) (resp delays : List Float) (rate : Float) (ll rl : ℕ) where
+  -- measurement k as it is
+  unfoldable pub extractOf : ℕ → Filter
+  extractOf k = record {
+    answer = Exact (secondsOf (plainDelay delays m r 0 k) rate) (secondsOf (plainDelay delays m r 1 k) rate);
+    left = outOf (λ i. tapOf resp r n 0 i k) n ll;
+    right = outOf (λ i. tapOf resp r n 1 i k) n rl;
+  }
+
+  -- the points ps, their weights divided by the sum
+  unfoldable pub blendOf : List Share → Filter
+  blendOf ps = record {
+    answer = Blended (secondsOf (blendDelay delays m r 0 ps) rate) (secondsOf (blendDelay delays m r 1 ps) rate) (length ps);
+    left = outOf (sampleOf resp r n 0 ps) n ll;
+    right = outOf (sampleOf resp r n 1 ps) n rl;
+  }
+
+  -- the points ps before the division; the nearest is k
+  unfoldable pub weighedOf : ℕ → List Share → Filter
+  weighedOf k ps = pick (lt (totalOf ps) tiny32) (extractOf k) (blendOf (map (part (totalOf ps)) ps))
+
+  -- the query q, whose nearest measurement is k: the exact filter where k is close, a refusal where an entry is bad, else the blend
+  unfoldable pub interpolateOf : List Float → List ℕ → Point3 → ℕ → Filter
+  interpolateOf cart near q k =
+      pick (lt (distanceOf cart q k) close32) (extractOf k)
+      (pick (allKnown m (neighborsOf near k)) (weighedOf k (pointsOf (distanceOf cart q) (neighborsOf near k) k)) (refusedOf 9 0 ll rl))

@@ -1,0 +1,297 @@
+-- The weights of a blend: none is a NaN or negative, their sum is no less than any of them, and divided by it each lies from +0 to 1. Assumes nothing.
+use mathlib.Core.Path.{_≡_, refl, sym, ap, subst, _∙_}
+use mathlib.Core.Bool.{Bool, true, false, not, cond, _&&_}
+use mathlib.Core.List.{List, [], _∷_, _++_, map}
+use Prim.Native.Nat.{ℕ, zero, suc, _*_, _≤_, _<_}
+use native.Mathlib.Omega.{arith}
+use lib.IntN.{ℤ, pos}
+use lib.Dec.{T, eqb, eqb→eq, ltb, lt→ltb, ltb→lt}
+use lib.ListN.{length, length-append}
+use lib.Ieee.{Float, nan, inf, fin, Format, binary32, up, down, round, add, div, le, lt, fits, isNan, ofBits}
+use lib.Ieee.Fits.{add-fits, div-fits}
+use lib.Ieee.Positive.{positive}
+use borrow.Author.Tests.{eq-eqb}
+use Rattle.floats.specs.Floats.{zero32, one32}
+use Rattle.floats.proofs.Cross.{of-taken, of-left, is-false}
+use Rattle.floats.proofs.Sign.{nonneg, round-nonneg}
+use Rattle.floats.proofs.Preorder.{number, le-refl-f, le-trans-f, le-lt-trans, lt→le, not-lt→le, le→not-lt, eq-both, zeros-eq}
+use Rattle.floats.proofs.Ops.{nonneg-number, add-nonneg, add-grows, add-grows-r}
+use Rattle.floats.proofs.Ratio.{magnitude, div-le-one, div-mono}
+use Rattle.points.specs.declared.Point3.{Point3}
+use Rattle.mix.specs.declared.Share.{Share}
+use Rattle.delays.specs.declared.Seconds.{Seconds}
+use Rattle.delays.specs.declared.Outcome.the-variants.{Exact, Blended, Refused}
+use Rattle.interpolate.specs.Blend.{close32, tiny32, largest32, absent, totalFrom, totalOf, part, shareOf, known, allKnown, closer, nothing, taken, pairOf, pointsOf, distanceOf, neighborsOf, Filter, pick, extractOf, blendOf, weighedOf, refusedOf, interpolateOf}
+use Rattle.interpolate.specs.declared.Closest.{Closest}
+use Rattle.interpolate.specs.declared.Neighbors.{Neighbors}
+use Rattle.interpolate.proofs.Laws.{known-in, neighbors-known}
+use Rattle.weights.specs.Weights.{Measured, Each, Portion, Shared}
+use Rattle.weights.proofs.Distances.{distance-nonneg}
+
+-- ---- quotients
+-- of a finite value that is not negative by one above zero
+pub div-nonneg : (f : Format) (x y : Float) → T (magnitude x) → T (positive y) → T (nonneg (div f x y))
+div-nonneg f nan y p q = absurd p
+div-nonneg f (inf s) y p q = absurd p
+div-nonneg f (fin true m e) y p q = absurd p
+div-nonneg f (fin false m e) nan p q = absurd q
+div-nonneg f (fin false m e) (inf s) p q = absurd q
+div-nonneg f (fin false m e) (fin true n d) p q = absurd q
+div-nonneg f (fin false m e) (fin false zero d) p q = absurd (none (ltb→lt 0 0 q))
+  where
+    none : 0 < 0 → ⊥
+    none h = omega arith
+div-nonneg f (fin false m e) (fin false (suc n) d) p q = unfold div in go (eqb (suc n) 0) refl
+  where
+    go : (b : Bool) → eqb (suc n) 0 ≡ b → T (nonneg (cond b (cond (eqb m 0) nan (inf false)) (round f false (m * up e * down d) (suc n * up d * down e))))
+    go true h = absurd (never n (eqb→eq (suc n) 0 (subst T (sym h) tt)))
+      where
+        never : (n : ℕ) → suc n ≡ 0 → ⊥
+        never n e = omega arith
+    go false h = round-nonneg f (m * up e * down d) (suc n * up d * down e)
+
+-- 1 / d, for a distance that is +0, positive or +infinity: never a NaN, never negative
+pub weight-nonneg : (d : Float) → T (nonneg d) → T (nonneg (div binary32 one32 d))
+unfolding div
+weight-nonneg nan p = absurd p
+weight-nonneg (inf true) p = absurd p
+weight-nonneg (inf false) p = tt
+weight-nonneg (fin true n e) p = absurd p
+weight-nonneg (fin false zero e) p = tt
+weight-nonneg (fin false (suc n) e) p = div-nonneg binary32 one32 (fin false (suc n) e) tt (lt→ltb 0 (suc n) (above n))
+  where
+    above : (n : ℕ) → 0 < suc n
+    above n = omega arith
+
+-- a value that is not below 1e-10 is not zero
+zero-le : (e : ℤ) → T (le (fin false 0 e) zero32)
+zero-le e = and-l (le (fin false 0 e) zero32) (le zero32 (fin false 0 e)) (sym (eq-both (fin false 0 e) zero32) ∙ zeros-eq false false e (pos 0))
+  where
+    and-l : (a b : Bool) → (a && b) ≡ true → T a
+    and-l true b h = tt
+    and-l false b h = subst T (sym h) tt
+
+pub above-zero : (n : ℕ) (e : ℤ) → lt (fin false n e) tiny32 ≡ false → T (positive (fin false n e))
+above-zero zero e h = absurd (no (subst T h (le-lt-trans (fin false 0 e) zero32 tiny32 (zero-le e) zero-below)))
+  where
+    no : T false → ⊥
+    no x = x
+
+    zero-below : T (lt zero32 tiny32)
+    zero-below = unfold lt ofBits in tt
+above-zero (suc n) e h = lt→ltb 0 (suc n) (above n)
+  where
+    above : (n : ℕ) → 0 < suc n
+    above n = omega arith
+
+-- so 1 / d is finite for a distance of at least 1e-10, +infinity too
+finite-below : (x : Float) → T (nonneg x) → T (le x largest32) → T (magnitude x)
+unfolding le ofBits
+finite-below nan p h = absurd p
+finite-below (inf true) p h = absurd p
+finite-below (inf false) p h = absurd h
+finite-below (fin true m e) p h = absurd p
+finite-below (fin false m e) p h = tt
+
+most : T (le (div binary32 one32 tiny32) largest32)
+unfolding le div ofBits round
+most = tt
+
+ends : T (magnitude one32) × T (positive tiny32) × T (le one32 one32)
+unfolding le ofBits
+ends = (tt, tt, tt)
+
+pub weight-finite : (d : Float) → T (nonneg d) → T (le tiny32 d) → T (magnitude (div binary32 one32 d))
+weight-finite nan p h = absurd p
+weight-finite (inf true) p h = absurd p
+weight-finite (inf false) p h = unfold div in tt
+weight-finite (fin true n e) p h = absurd p
+weight-finite (fin false n e) p h =
+    let d = fin false n e in
+    let q = above-zero n e (is-false (lt d tiny32) (clash (lt d tiny32) (le→not-lt tiny32 d h))) in
+    finite-below (div binary32 one32 d) (div-nonneg binary32 one32 d (ends .0) q)
+    (le-trans-f (div binary32 one32 d) (div binary32 one32 tiny32) largest32 (div-mono binary32 one32 one32 d tiny32 (ends .0) (ends .0) q (ends .1) (ends .2) h) most)
+  where
+    clash : (b : Bool) → T (not b) → T b → ⊥
+    clash true p q = p
+    clash false p q = q
+
+-- ---- a share whose weight is a number, not negative; and one whose weight is finite too
+pub record Good (p : Share) : Type 0 where
+  pub sign : T (nonneg (p .weight))
+  pub fit : T (fits binary32 (p .weight))
+
+pub record Sound (p : Share) : Type 0 where
+  pub good : Good p
+  pub size : T (magnitude (p .weight))
+
+share-good : (k : ℕ) (d : Float) → T (nonneg d) → Good (shareOf k d)
+share-good k d h = record { sign = weight-nonneg d h; fit = div-fits binary32 one32 d }
+
+share-sound : (k : ℕ) (d : Float) → T (nonneg d) → T (le tiny32 d) → Sound (shareOf k d)
+share-sound k d h b = record { good = share-good k d h; size = weight-finite d h b }
+
+each-join : {A : Type 0} (P : A → Type 0) (xs ys : List A) → Each P xs → Each P ys → Each P (xs ++ ys)
+each-join P [] ys e f = f
+each-join P (x ∷ xs) ys e f = (e .0, each-join P xs ys (e .1) f)
+
+goods : (ps : List Share) → Each Sound ps → Each Good ps
+goods [] e = tt
+goods (p ∷ ps) e = (e .0 .good, goods ps (e .1))
+
+-- ---- the sum
+total-nonneg : (ps : List Share) (s : Float) → T (nonneg s) → Each Good ps → T (nonneg (totalFrom s ps))
+unfolding totalFrom
+total-nonneg [] s h g = h
+total-nonneg (p ∷ ps) s h g = total-nonneg ps (add binary32 s (p .weight)) (add-nonneg binary32 s (p .weight) h (g .0 .sign)) (g .1)
+
+total-grows : (ps : List Share) (s : Float) → T (nonneg s) → T (fits binary32 s) → Each Good ps → T (le s (totalFrom s ps))
+unfolding totalFrom
+total-grows [] s h k g = le-refl-f s (nonneg-number s h)
+total-grows (p ∷ ps) s h k g =
+    le-trans-f s (add binary32 s (p .weight)) (totalFrom (add binary32 s (p .weight)) ps) (add-grows binary32 s (p .weight) h (g .0 .sign) k)
+    (total-grows ps (add binary32 s (p .weight)) (add-nonneg binary32 s (p .weight) h (g .0 .sign)) (add-fits binary32 s (p .weight)) (g .1))
+
+total-from : (ps : List Share) (s : Float) → T (nonneg s) → T (fits binary32 s) → Each Good ps → Each (λ (p : Share). T (le (p .weight) (totalFrom s ps))) ps
+unfolding totalFrom
+total-from [] s h k g = tt
+total-from (p ∷ ps) s h k g = (
+  le-trans-f (p .weight) (add binary32 s (p .weight)) (totalFrom (add binary32 s (p .weight)) ps) (add-grows-r binary32 s (p .weight) h (g .0 .sign) (g .0 .fit))
+      (total-grows ps (add binary32 s (p .weight)) (add-nonneg binary32 s (p .weight) h (g .0 .sign)) (add-fits binary32 s (p .weight)) (g .1)),
+  total-from ps (add binary32 s (p .weight)) (add-nonneg binary32 s (p .weight) h (g .0 .sign)) (add-fits binary32 s (p .weight)) (g .1),
+)
+
+zero-fits : T (fits binary32 zero32)
+unfolding fits
+zero-fits = tt
+
+-- the sum is no less than any weight
+pub total-over : (ps : List Share) → Each Good ps → Each (λ (p : Share). T (le (p .weight) (totalOf ps))) ps
+total-over ps g = total-from ps zero32 tt zero-fits g
+
+-- ---- a weight divided by the sum: from +0 to 1, and +0 where the sum overflows
+pub portion : (w s : Float) → T (magnitude w) → T (nonneg s) → lt s tiny32 ≡ false → T (le w s) → Portion (div binary32 w s)
+portion nan s m h t l = absurd m
+portion (inf u) s m h t l = absurd m
+portion (fin true a e) s m h t l = absurd m
+portion (fin false a e) nan m h t l = absurd h
+portion (fin false a e) (inf true) m h t l = absurd h
+portion (fin false a e) (inf false) m h t l = unfold div le in record { low = tt; high = tt }
+portion (fin false a e) (fin true n d) m h t l = absurd h
+portion (fin false a e) (fin false n d) m h t l =
+    let p = above-zero n d t in
+    record { low = div-nonneg binary32 (fin false a e) (fin false n d) m p; high = div-le-one binary32 (fin false a e) (fin false n d) m p l }
+
+portions-by : (s : Float) (ps : List Share) → T (nonneg s) → lt s tiny32 ≡ false → Each Sound ps → Each (λ (p : Share). T (le (p .weight) s)) ps
+    → Each (λ (p : Share). Portion (p .weight)) (map (part s) ps)
+portions-by s [] h t e l = tt
+portions-by s (p ∷ ps) h t e l = (portion (p .weight) s (e .0 .size) h t (l .0), portions-by s ps h t (e .1) (l .1))
+
+pub portions : (ps : List Share) → Each Sound ps → lt (totalOf ps) tiny32 ≡ false → Each (λ (p : Share). Portion (p .weight)) (map (part (totalOf ps)) ps)
+portions ps e t = portions-by (totalOf ps) ps (total-nonneg ps zero32 tt (goods ps e)) t e (total-over ps (goods ps e))
+
+-- ---- the points: one to four of them
+pair-length : (d : ℕ → Float) (a b : ℕ) → length (pairOf d a b) ≤ 1
+unfolding pairOf taken
+pair-length d a b = go (closer d (closer d nothing a) b)
+  where
+    go : (b : Closest) → length (taken b) ≤ 1
+    go b = unfold taken in two (lt (b .dist) largest32 && lt tiny32 (b .dist)) (shareOf (b .number) (b .dist))
+      where
+        two : (t : Bool) (s : Share) → length (cond t (s ∷ []) []) ≤ 1
+        two true s = omega arith
+        two false s = omega arith
+
+pub points-count : (d : ℕ → Float) (s : Neighbors) (k : ℕ) → (1 ≤ length (pointsOf d s k)) × (length (pointsOf d s k) ≤ 4)
+unfolding pointsOf
+points-count d s k = (
+  simp length-append (omega arith),
+  simp length-append (omega (arith, pair-length d (s .«phi_plus») (s .«phi_minus»), pair-length d (s .«theta_plus») (s .«theta_minus»), pair-length d (s .«radius_plus») (s .«radius_minus»))),
+)
+
+-- ---- all of them sound, where no measurement's distance is negative or a NaN and the nearest's is not below 1e-6
+module _ (m : ℕ) (d : ℕ → Float) (h : (j : ℕ) → j < m → T (nonneg (d j))) where
+  closer-nonneg : (b : Closest) (k : ℕ) → known m k ≡ true → T (nonneg (b .dist)) → T (nonneg (closer d b k .dist))
+  unfolding closer
+  closer-nonneg b k e g = go (eqb k absent) refl (lt (d k) (b .dist))
+    where
+      there : eqb k absent ≡ false → k ≡ absent → ⊥
+      there f q = let w : true ≡ false = sym (eq-eqb k absent q) ∙ f in let z : _≡_ {A = ℕ} 0 1 = cc in omega arith
+
+      go : (t : Bool) → eqb k absent ≡ t → (u : Bool) → T (nonneg ((cond t b (cond u (record { number = k; dist = d k }) b)) .dist))
+      go true f u = g
+      go false f true = h k (known-in m k e (there f))
+      go false f false = g
+
+  taken-sound : (b : Closest) → T (nonneg (b .dist)) → Each Sound (taken b)
+  unfolding taken
+  taken-sound b g = go (lt (b .dist) largest32) (lt tiny32 (b .dist)) refl
+    where
+      go : (t u : Bool) → lt tiny32 (b .dist) ≡ u → Each Sound (cond (t && u) (shareOf (b .number) (b .dist) ∷ []) [])
+      go true true e = (share-sound (b .number) (b .dist) g (lt→le tiny32 (b .dist) (of-taken e)), tt)
+      go true false e = tt
+      go false u e = tt
+
+  largest-nonneg : T (nonneg (nothing .dist))
+  unfolding ofBits
+  largest-nonneg = tt
+
+  pair-sound : (a b : ℕ) → known m a ≡ true → known m b ≡ true → Each Sound (pairOf d a b)
+  unfolding pairOf
+  pair-sound a b ka kb = taken-sound (closer d (closer d nothing a) b) (closer-nonneg (closer d nothing a) b kb (closer-nonneg nothing a ka largest-nonneg))
+
+  pub points-sound : (s : Neighbors) (k : ℕ) → k < m → allKnown m s ≡ true → lt (d k) close32 ≡ false → Each Sound (pointsOf d s k)
+  unfolding pointsOf
+  points-sound s k hk ha hc =
+      let g = neighbors-known m s ha in
+      let a = pairOf d (s .«phi_plus») (s .«phi_minus») in
+      let b = pairOf d (s .«theta_plus») (s .«theta_minus») in
+      let c = pairOf d (s .«radius_plus») (s .«radius_minus») in
+      let one = shareOf k (d k) ∷ [] in
+      let far = not-lt→le (d k) close32 (nonneg-number (d k) (h k hk)) close-number (of-left hc) in
+      let first = share-sound k (d k) (h k hk) (le-trans-f tiny32 close32 (d k) tiny-close far) in
+      each-join Sound ((one ++ a) ++ b) c (each-join Sound (one ++ a) b (each-join Sound one a (first, tt) (pair-sound _ _ (g .a-known) (g .b-known))) (pair-sound _ _ (g .c-known) (g .d-known)))
+      (pair-sound _ _ (g .e-known) (g .f-known))
+    where
+      close-number : T (number close32)
+      close-number = unfold isNan ofBits in tt
+
+      tiny-close : T (le tiny32 close32)
+      tiny-close = unfold le ofBits in tt
+
+-- ---- an answer that is blended went past all three exits
+record Past (t u v : Bool) (y : Filter) (l r : Seconds) (c : ℕ) : Type 0 where
+  far : t ≡ false
+  met : u ≡ true
+  heavy : v ≡ false
+  says : y .answer ≡ Blended l r c
+
+past : (t u v : Bool) (x y z : Filter) (l r a b : Seconds) (c i j : ℕ) → x .answer ≡ Exact a b → z .answer ≡ Refused i j
+    → (pick t x (pick u (pick v x y) z)) .answer ≡ Blended l r c → Past t u v y l r c
+unfolding pick
+past true u v x y z l r a b c i j ex ez e = let w : _≡_ {A = ℕ} 0 1 = cc in absurd (omega arith)
+past false false v x y z l r a b c i j ex ez e = let w : _≡_ {A = ℕ} 0 1 = cc in absurd (omega arith)
+past false true true x y z l r a b c i j ex ez e = let w : _≡_ {A = ℕ} 0 1 = cc in absurd (omega arith)
+past false true false x y z l r a b c i j ex ez e = record { far = refl; met = refl; heavy = refl; says = e }
+
+length-map : (f : Share → Share) (ps : List Share) → length (map f ps) ≡ length ps
+length-map f [] = refl
+length-map f (p ∷ ps) = ap suc (length-map f ps)
+
+-- where the answer is blended with c points: what `Shared` says of the list of points
+pub blended : (m r n : ℕ) (resp delays : List Float) (rate : Float) (ll rl : ℕ) (cart : List Float) (near : List ℕ) (q : Point3) (k : ℕ)
+    → k < m → Measured m cart q → (x y : Seconds) (c : ℕ)
+    → interpolateOf m r n resp delays rate ll rl cart near q k .answer ≡ Blended x y c → Shared (pointsOf (distanceOf cart q) (neighborsOf near k) k) c
+unfolding interpolateOf weighedOf extractOf blendOf
+blended m r n resp delays rate ll rl cart near q k hk fine x y c e =
+    let d : ℕ → Float = distanceOf cart q in
+    let s = neighborsOf near k in
+    let ps = pointsOf d s k in
+    let p = past (lt (d k) close32) (allKnown m s) (lt (totalOf ps) tiny32) (extractOf m r n resp delays rate ll rl k) (blendOf m r n resp delays rate ll rl (map (part (totalOf ps)) ps)) (refusedOf 9 0 ll rl) x y _ _ c 9 0 refl refl e in
+    let good = points-sound m d (λ j b. distance-nonneg m cart q j fine b) s k hk (p .met) (p .far) in
+    let len : c ≡ length ps = sym (count (p .says)) ∙ length-map (part (totalOf ps)) ps in
+    let bounds = points-count d s k in
+    record { count = len; one = rw len (bounds .0); four = rw len (bounds .1); over = total-over ps (goods ps good); portions = portions ps good (p .heavy) }
+  where
+    count : {a b : Seconds} {i : ℕ} → Blended a b i ≡ Blended x y c → i ≡ c
+    count h = cc
