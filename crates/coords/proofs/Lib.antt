@@ -1,1 +1,3 @@
 pub mod Triplets
+pub mod Radii
+pub mod Places

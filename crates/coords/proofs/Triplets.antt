@@ -1,17 +1,18 @@
 -- The loop that changes a list three values at a time, for any change of a triplet: what is changed so far, followed by what is left to change,
 -- is the whole. Assumes nothing.
-use Prim.Native.Nat.{ℕ, zero, suc, _+_, _≤_, _<_}
-use mathlib.Core.Path.{_≡_, refl, sym, ap, _∙_}
+use Prim.Native.Nat.{ℕ, suc, _+_, _*_, _<_}
+use mathlib.Core.Path.{_≡_, refl, _∙_}
 use mathlib.Core.List.{List, [], _∷_, _++_, append-assoc}
 use native.Mathlib.Omega.{arith}
 use lib.ListN.{length, take, drop, getD, set, length-append, length-drop, take-append-drop}
-use lib.Seq.{drop-cons, length-take-le, sets, sets-eq, take-at, drop-at}
+use lib.Seq.{drop-cons, length-take-le, sets-eq, take-at, drop-at}
 use lib.Ieee.{Float, nan}
 use Rattle.points.specs.declared.Point3.{Point3}
+use Rattle.points.specs.Points.{pointAt}
 use Rattle.limits.specs.declared.Verdict.{Verdict}
 use Rattle.limits.specs.declared.Verdict.the-variants.{Fine, Refused}
 use Rattle.limits.specs.Refusals.{verdictOf, valueLines}
-use Rattle.coords.specs.Arrays.{turned, tripletAt, byTriplets, convertedAs, keptOr, convertOf}
+use Rattle.coords.specs.Arrays.{turned, byTriplets, convertedAs, keptOr, convertOf}
 
 -- the values of a triplet
 abbrev pub valuesOf : Point3 → List Float
@@ -38,16 +39,18 @@ module _ (f : Point3 → Point3) where
   by-three a b c rest t e = rw e
 
   -- one turn of the loop
-  pub turn : (xs : List Float) (i : ℕ) (t : Point3) → t ≡ f (tripletAt xs i) → i + 2 < length xs
-      → (ys : List Float) → ys ≡ set (set (set xs i (t .x)) (i + 1) (t .y)) (i + 2) (t .z)
-      → take (i + 3) ys ++ byTriplets f (drop (i + 3) ys) ≡ take i xs ++ byTriplets f (drop i xs)
-  unfolding tripletAt
-  turn xs i t e h ys s =
+  pub turn : (xs : List Float) (place : ℕ) → 3 * place + 2 < length xs → (t : Point3) → t ≡ f (pointAt xs place)
+      → (ys : List Float) → ys ≡ set (set (set xs (3 * place) (t .x)) (3 * place + 1) (t .y)) (3 * place + 2) (t .z)
+      → take (3 * (place + 1)) ys ++ byTriplets f (drop (3 * (place + 1)) ys) ≡ take (3 * place) xs ++ byTriplets f (drop (3 * place) xs)
+  unfolding pointAt
+  turn xs place h t e ys s =
+      let i = 3 * place in
+      let next : 3 * (place + 1) ≡ i + 3 = omega arith in
       let p = take i xs ++ valuesOf t in
       let rest = drop (i + 3) xs in
-      let len : length p ≡ i + 3 = simp (length-append) (omega (arith, length-take-le i xs (omega arith))) in
+      let len : length p ≡ i + 3 = simp length-append (omega (arith, length-take-le i xs (omega arith))) in
       let whole : ys ≡ p ++ rest = s ∙ stored xs i t h in
-      rw (whole, take-at p rest (i + 3) len, drop-at p rest (i + 3) len, three xs i h, by-three _ _ _ rest t e)
+      rw (next, whole, take-at p rest (i + 3) len, drop-at p rest (i + 3) len, three xs i h, by-three _ _ _ rest t e)
       (append-assoc (take i xs) (valuesOf t) (byTriplets f rest))
 
   short : (xs : List Float) → length xs < 3 → byTriplets f xs ≡ xs

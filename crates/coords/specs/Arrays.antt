@@ -1,10 +1,9 @@
 -- A lent list converted in place, three values at a time. Definitions only.
-use Prim.Native.Nat.{ℕ, _+_}
+use Prim.Native.Nat.{ℕ}
 use mathlib.Core.Bool.{cond}
 use mathlib.Core.List.{List, [], _∷_}
 use lib.Dec.{eqb}
-use lib.ListN.{getD}
-use lib.Ieee.{Float, nan}
+use lib.Ieee.{Float}
 use Rattle.points.specs.declared.Point3.{Point3}
 use Rattle.limits.specs.declared.Verdict.{Verdict}
 use Rattle.limits.specs.declared.Verdict.the-variants.{Fine, Refused}
@@ -22,10 +21,6 @@ lifted t = record { azimuth = t .x; elevation = t .y; radius = t .z }
 -- from the kind, 0 cartesian or 1 spherical, to the other one
 unfoldable pub turned : ℕ → Point3 → Point3
 turned kind t = cond (eqb kind 0) (laid (sphericalOf t)) (cartesianOf (lifted t))
-
--- the three values from an index on
-unfoldable pub tripletAt : List Float → ℕ → Point3
-tripletAt xs i = record { x = getD xs i nan; y = getD xs (i + 1) nan; z = getD xs (i + 2) nan }
 
 -- each whole triplet changed by f; one or two values left over stay
 unfoldable pub byTriplets : (Point3 → Point3) → List Float → List Float

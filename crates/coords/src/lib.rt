@@ -4,15 +4,15 @@
 // specs/Coords.antt has each step as document 01 and the source have it, rounded at each operation;
 // specs/Arrays.antt says what a list holds after a conversion. `turn_of` and `along` are the halves of
 // `spherical_to_cartesian`: a search that keeps one angle works out its sine and cosine once.
-// proofs/Radius.antt: the radius of a finite point is a number and not negative. The crate `coord_laws`:
-// a converted position that was allowed has coordinates of magnitude at most 10001.
+//
+// proofs/Radii.antt: the radius of a finite point is a number and not negative. proofs/Places.antt:
+// a converted list, place by place. The crate `coord_laws`: a converted position whose radius was
+// allowed has coordinates of magnitude at most 10001.
 use limits::Verdict;
 use points::Point3;
 ghost use mathlib.Core.Path.{_≡_};
-ghost use Prim.Native.Nat.{_+_, _<_};
-ghost use lib.ListN.{length};
 ghost use Rattle.coords.specs.Coords.{turnOf, alongOf, cartesianOf, radiusOf, sphericalOf};
-ghost use Rattle.coords.specs.Arrays.{turned, tripletAt, byTriplets, convertedAs, convertOf};
+ghost use Rattle.coords.specs.Arrays.{turned, byTriplets, convertedAs, convertOf};
 
 // Azimuth and elevation in degrees.
 pub struct Spherical {
@@ -96,33 +96,19 @@ fn turn_triplet(kind: u32, p: Point3) -> Point3
     }
 }
 
-// The triplet that starts at a place.
-fn turn_at(kind: u32, values: &[f32], at: usize) -> Point3
-    requires { ⌜ at + 2 < length (now values) ⌝ }
-    ensures { λ r. ⌜ r ≡ turned kind (tripletAt (now (values .entry)) at) ⌝ }
-{
-    turn_triplet(
-        kind,
-        Point3 {
-            x: values[at],
-            y: values[at + 1],
-            z: values[at + 2],
-        },
-    )
-}
-
 // Each whole triplet of a list from its kind to the other, unchecked: a load's own list goes by this.
 pub fn convert_triplets(kind: u32, values: &mut [f32])
     ensures { λ _. ⌜ now (values .exit) ≡ byTriplets (turned kind) (now (values .entry)) ⌝ }
 {
-    let whole = values.len() - values.len() % 3;
-    let mut i = 0;
-    while i < whole {
-        let t = turn_at(kind, values, i);
-        values[i] = t.x;
-        values[i + 1] = t.y;
-        values[i + 2] = t.z;
-        i += 3;
+    let count = values.len() / 3;
+    let mut place = 0;
+    while place < count {
+        let t = turn_triplet(kind, points::point_at(values, place));
+        let at = 3 * place;
+        values[at] = t.x;
+        values[at + 1] = t.y;
+        values[at + 2] = t.z;
+        place += 1;
     }
 }
 

@@ -1,7 +1,7 @@
 -- No point inside a box is nearer to the query than the box, in rounded arithmetic: of any floats whatever (`box-under`). And what the boxes of
 -- a tree keep inside. Assumes nothing.
 use mathlib.Core.Path.{_≡_, refl, sym, ap, _∙_, subst}
-use mathlib.Core.Logic.{_⊎_, inl, inr}
+use mathlib.Core.Logic.{inl, inr}
 use mathlib.Core.Bool.{Bool, true, false, not, cond}
 use lib.Dec.{T, T-not, not-T}
 use lib.IntN.{pos}
@@ -11,44 +11,11 @@ use Rattle.points.specs.declared.Point3.{Point3}
 use Rattle.kdtree.specs.declared.BoundingBox.{BoundingBox}
 use Rattle.points.specs.Points.{gap, distSq}
 use Rattle.kdtree.specs.Geometry.{outside, boxDistSq, lower, upper, grown}
-use Rattle.walks.specs.Demand3.{Finite}
 use Rattle.floats.proofs.Cross.{of-taken, of-left}
 use Rattle.floats.proofs.Preorder.{number, le-trans-f, lt→le, le→not-lt, not-lt→le, not-lt-trans, lt-irrefl-f, lt-trans-f}
 use Rattle.floats.proofs.Sign.{nonneg}
 use Rattle.floats.proofs.Ops.{nonneg-number, add-nonneg, add-mono, add-grows, zero-plus}
-use Rattle.walks.proofs.Gap.{Fair, sq-fair, add-fair, add-nan-l, add-nan-r, gap-nan, gap-comm, gap-finite, gap-outside, gap-below, gap-above}
-
--- ---- the squared distance of two points
--- of finite points it is no `nan`: it is finite and not negative, or +infinity
-pub dist-nonneg : (a b : Point3) → Finite a → Finite b → T (nonneg (distSq a b))
-unfolding distSq
-dist-nonneg a b p q =
-    let x = gap (a .x) (b .x) in
-    let y = gap (a .y) (b .y) in
-    let z = gap (a .z) (b .z) in
-    let X = gap-finite (a .x) (b .x) (p .x) (q .x) in
-    let Y = gap-finite (a .y) (b .y) (p .y) (q .y) in
-    let Z = gap-finite (a .z) (b .z) (p .z) (q .z) in
-    add-nonneg binary32 (add binary32 x y) z (add-nonneg binary32 x y X Y) Z
-
-pub dist-number : (a b : Point3) → Finite a → Finite b → T (number (distSq a b))
-dist-number a b p q = nonneg-number (distSq a b) (dist-nonneg a b p q)
-
--- with a `nan` in a coordinate of either it is `nan`
-gap-nan-r : (x y : Float) → y ≡ nan → gap x y ≡ nan
-gap-nan-r x y e = gap-comm x y ∙ ap (λ (z : Float). gap z x) e ∙ gap-nan x
-
-pub dist-nan : (a p : Point3) → (p .x ≡ nan) ⊎ ((p .y ≡ nan) ⊎ (p .z ≡ nan)) → distSq a p ≡ nan
-unfolding distSq
-dist-nan a p (inl e) =
-    ap (λ (z : Float). add binary32 (add binary32 z (gap (a .y) (p .y))) (gap (a .z) (p .z))) (gap-nan-r (a .x) (p .x) e)
-    ∙ ap (λ (z : Float). add binary32 z (gap (a .z) (p .z))) (add-nan-l (gap (a .y) (p .y))) ∙ add-nan-l (gap (a .z) (p .z))
-dist-nan a p (inr (inl e)) =
-    ap (λ (z : Float). add binary32 (add binary32 (gap (a .x) (p .x)) z) (gap (a .z) (p .z))) (gap-nan-r (a .y) (p .y) e)
-    ∙ ap (λ (z : Float). add binary32 z (gap (a .z) (p .z))) (add-nan-r (gap (a .x) (p .x))) ∙ add-nan-l (gap (a .z) (p .z))
-dist-nan a p (inr (inr e)) =
-    ap (λ (z : Float). add binary32 (add binary32 (gap (a .x) (p .x)) (gap (a .y) (p .y))) z) (gap-nan-r (a .z) (p .z) e)
-    ∙ add-nan-r (add binary32 (gap (a .x) (p .x)) (gap (a .y) (p .y)))
+use Rattle.points.proofs.Gap.{Fair, sq-fair, add-fair, add-nan-l, add-nan-r, gap-comm, gap-outside, gap-below, gap-above}
 
 abbrev zero : Float
 zero = fin false 0 (pos 0)

@@ -3,14 +3,14 @@ use mathlib.Core.Path.{_≡_, refl, sym, ap, _∙_, subst}
 use mathlib.Core.Logic.{_⊎_, inl, inr}
 use mathlib.Core.Bool.{true, false, not}
 use mathlib.Core.List.{List, [], _∷_, _++_, map, append-assoc}
-use Prim.Native.Nat.{ℕ, suc, _+_, _-_, _<_, _≤_}
+use Prim.Native.Nat.{ℕ, suc, _+_, _<_, _≤_}
 use native.Mathlib.Omega.{arith}
 use lib.ListN.{length, getD}
 use lib.Dec.{T, T-not}
 use lib.Ieee.{Float, lt}
 use borrow.Author.Tests.{le-leb}
 use Rattle.points.specs.declared.Point3.{Point3}
-use Rattle.points.specs.Points.{pointAt, distSq}
+use Rattle.points.specs.Points.{pointAt, distSq, Finite}
 use Rattle.floats.proofs.Cross.{of-taken, of-left}
 use Rattle.floats.proofs.Preorder.{number, nan-lt, lt→le, le→not-lt, lt-irrefl-f}
 use Rattle.kdtree.specs.declared.BoundingBox.{BoundingBox}
@@ -25,8 +25,9 @@ use Rattle.kdtree.specs.Insert.{Lists, Stored}
 use Rattle.kdtree.specs.Nearest.{startOf, placeOf, numberOf}
 use Rattle.kdtree.proofs.Nodes.{All}
 use Rattle.kdtree.proofs.Whole as whole
-use Rattle.walks.specs.Demand3.{Numbered, distTo, Nearer, NotNearer, Finite, SomeNan, Each, In, Reordered, Bare, empty, kept, insertInto, fill, answers, Accepted, RoomFor, nearestIn, searchIn, treeIn, standing, rootOf, walkNames, visiting, FirstNearest, Alone, Demand3}
-use Rattle.walks.proofs.Box.{dist-number, dist-nan}
+use Rattle.lists.specs.Each.{Each, In}
+use Rattle.walks.specs.Demand3.{Numbered, distTo, Nearer, NotNearer, SomeNan, Reordered, Bare, empty, kept, insertInto, fill, answers, Accepted, RoomFor, nearestIn, searchIn, treeIn, standing, rootOf, walkNames, visiting, FirstNearest, Alone, Demand3}
+use Rattle.points.proofs.Distance.{dist-number, dist-nan}
 use Rattle.walks.proofs.Pruned.{Agrees, prune, walk-none}
 use Rattle.walks.proofs.Lists.{each-append, each-left, each-right, each-in, each-to, each-both, each-reordered, each-ordered, in-reordered, in-ordered, in-middle, map-append}
 use Rattle.walks.proofs.First.{distOf, scan, walk-scan, all-order, scan-least, Named, scan-first}

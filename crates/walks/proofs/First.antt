@@ -16,7 +16,7 @@ use Rattle.kdtree.specs.Geometry.{nextAxis, leftFirst}
 use Rattle.kdtree.specs.Tree.{Tree, gone, bad, node}
 use Rattle.kdtree.specs.Unpruned.{Pick, Item, meet, walk, order}
 use Rattle.kdtree.proofs.Nodes.{All}
-use Rattle.walks.specs.Demand3.{Each}
+use Rattle.lists.specs.Each.{Each}
 use Rattle.walks.proofs.Lists.{each-append, each-left, each-right}
 
 -- true is not false

@@ -1,5 +1,4 @@
 pub mod Lists
-pub mod Gap
 pub mod Box
 pub mod Pruned
 pub mod First

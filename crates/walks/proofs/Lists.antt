@@ -2,7 +2,8 @@
 use mathlib.Core.Path.{_≡_, refl, sym, ap, subst}
 use mathlib.Core.Logic.{inl, inr}
 use mathlib.Core.List.{List, [], _∷_, _++_, map}
-use Rattle.walks.specs.Demand3.{Each, In, Put, here, there, Reordered, none, more}
+use Rattle.lists.specs.Each.{Each, In}
+use Rattle.walks.specs.Demand3.{Put, here, there, Reordered, none, more}
 
 module _ {A : Type 0} (P : A → Type 0) where
   pub each-append : (k l : List A) → Each P k → Each P l → Each P (k ++ l)

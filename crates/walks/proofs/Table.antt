@@ -7,7 +7,8 @@ use Rattle.kdtree.specs.Tree.{linkOf, sideOf, subtree}
 use Rattle.kdtree.specs.Search.{improve, visited, nearerBox, fartherBox, farther, afterNear, search}
 use Rattle.kdtree.specs.Insert.{sideSlot, slotIn, written, linkedLeft, linkedRight, bySlot, insertOf}
 use Rattle.kdtree.specs.Nearest.{startOf, placeOf, numberOf, nearestOf}
-use Rattle.walks.specs.Demand3.{Each, kept, fill}
+use Rattle.lists.specs.Each.{Each}
+use Rattle.walks.specs.Demand3.{kept, fill}
 use Rattle.walks.specs.Table.{blank, Holds, rows}
 
 pub table : Each Holds rows

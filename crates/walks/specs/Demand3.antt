@@ -8,7 +8,7 @@ use Prim.Native.Nat.{ℕ, suc, _*_, _≤_}
 use lib.ListN.{length, getD}
 use lib.Dec.{T}
 use lib.Ieee.{Float, nan, lt}
-use lib.Ieee.Scale.{finite}
+use Rattle.lists.specs.Each.{Each, In}
 use Rattle.points.specs.declared.Point3.{Point3}
 use Rattle.points.specs.Points.{pointAt, distSq}
 use Rattle.kdtree.specs.declared.BoundingBox.{BoundingBox}
@@ -39,23 +39,10 @@ Nearer q a b = T (lt (distTo q a) (distTo q b))
 abbrev pub NotNearer : Point3 → Numbered → Numbered → Type 0
 NotNearer q a b = T (not (lt (distTo q a) (distTo q b)))
 
-pub record Finite (p : Point3) : Type 0 where
-  pub x : T (finite (p .x))
-  pub y : T (finite (p .y))
-  pub z : T (finite (p .z))
-
 pub record SomeNan (p : Point3) : Type 0 where
   pub which : (p .x ≡ nan) ⊎ ((p .y ≡ nan) ⊎ (p .z ≡ nan))
 
 -- ---- lists of measurements
-
-abbrev pub Each : {A : Type 0} → (A → Type 0) → List A → Type 0
-Each P [] = Unit
-Each P (a ∷ l) = P a × Each P l
-
-abbrev pub In : {A : Type 0} → A → List A → Type 0
-In a [] = ⊥
-In a (b ∷ l) = (a ≡ b) ⊎ In a l
 
 -- the second list is the first with one more, put in somewhere
 pub data Put {A : Type 0} (a : A) : List A → List A → Type 0 where

@@ -5,6 +5,6 @@
 // `visits-bounded` and `nan-query`. Finite coordinates and a finite query are asked for where a distance must be a number, and nowhere
 // else; sums that overflow are no exception. specs/Table.antt has document 01's examples P1 to P7, proofs/Table.antt computes them.
 //
-// The way there: proofs/Gap.antt and proofs/Box.antt (no point in a box is nearer than the box, in rounded arithmetic), proofs/Pruned.antt
+// The way there: points' proofs/Gap.antt and proofs/Box.antt (no point in a box is nearer than the box, in rounded arithmetic), proofs/Pruned.antt
 // (so the search may pass the box over), proofs/First.antt (the walk names a first minimum), proofs/Rep.antt and proofs/Filled.antt (what the
 // lists draw after inserts).

@@ -5,7 +5,7 @@ use mathlib.Core.List.{List, [], _∷_, _++_, map}
 use Prim.Native.Nat.{ℕ, zero, suc, _*_, _≤_, _<_}
 use native.Mathlib.Omega.{arith}
 use lib.IntN.{ℤ, pos}
-use lib.Dec.{T, eqb, eqb→eq, ltb, lt→ltb, ltb→lt}
+use lib.Dec.{T, eqb, eqb→eq, lt→ltb, ltb→lt}
 use lib.ListN.{length, length-append}
 use lib.Ieee.{Float, nan, inf, fin, Format, binary32, up, down, round, add, div, le, lt, fits, isNan, ofBits}
 use lib.Ieee.Fits.{add-fits, div-fits}
@@ -25,7 +25,8 @@ use Rattle.interpolate.specs.Blend.{close32, tiny32, largest32, absent, totalFr
 use Rattle.interpolate.specs.declared.Closest.{Closest}
 use Rattle.interpolate.specs.declared.Neighbors.{Neighbors}
 use Rattle.interpolate.proofs.Laws.{known-in, neighbors-known}
-use Rattle.weights.specs.Weights.{Measured, Each, Portion, Shared}
+use Rattle.lists.specs.Each.{Each}
+use Rattle.weights.specs.Weights.{Measured, Portion, Shared}
 use Rattle.weights.proofs.Distances.{distance-nonneg}
 
 -- ---- quotients

@@ -1,32 +1,22 @@
 -- What is said of the weights of a blend. Definitions only.
 use mathlib.Core.Path.{_≡_}
-use mathlib.Core.List.{List, [], _∷_, map}
+use mathlib.Core.List.{List, [], map}
 use Prim.Native.Nat.{ℕ, _≤_, _<_}
 use lib.Dec.{T}
 use lib.ListN.{length}
 use lib.Ieee.{Float, le}
-use lib.Ieee.Scale.{finite}
 use Rattle.floats.specs.Floats.{one32}
 use Rattle.floats.proofs.Sign.{nonneg}
 use Rattle.points.specs.declared.Point3.{Point3}
-use Rattle.points.specs.Points.{pointAt}
+use Rattle.lists.specs.Each.{Each}
+use Rattle.points.specs.Points.{pointAt, Finite}
 use Rattle.mix.specs.declared.Share.{Share}
 use Rattle.interpolate.specs.Blend.{totalOf, part}
-
--- a point with three finite coordinates
-pub record Finite (a : Point3) : Type 0 where
-  pub fin-x : T (finite (a .x))
-  pub fin-y : T (finite (a .y))
-  pub fin-z : T (finite (a .z))
 
 -- finite are the query and the first m points of the list
 pub record Measured (m : ℕ) (cart : List Float) (q : Point3) : Type 0 where
   pub points : (j : ℕ) → j < m → Finite (pointAt cart j)
   pub query : Finite q
-
-abbrev pub Each : {A : Type 0} → (A → Type 0) → List A → Type 0
-Each P [] = Unit
-Each P (a ∷ l) = P a × Each P l
 
 -- from +0 (−0 is negative) to 1
 pub record Portion (x : Float) : Type 0 where

@@ -1,10 +1,7 @@
-use mathlib.Core.Path.{_≡_, refl, sym, ap, _∙_}
+use mathlib.Core.Path.{refl}
 use Rattle.coords.specs.Coords.{alongOf}
-use borrow.Author.Needs.{needs}
 use Rattle.coords.proofs.along.Statement.{statement}
 use Rattle.coords.proofs.along.Tie as tie
-use Rattle.coords.proofs.along.Reads as reads
-use Rattle.coords.proofs.along.Lts as lts
 
 returns : tie.Need-returns
 unfolding alongOf

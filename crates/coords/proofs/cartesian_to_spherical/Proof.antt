@@ -2,11 +2,6 @@ use Rattle.coords.specs.Coords.{sphericalOf}
 use borrow.Author.Needs.{needs}
 use Rattle.coords.proofs.cartesian_to_spherical.Statement.{statement}
 use Rattle.coords.proofs.cartesian_to_spherical.Tie as tie
-use Rattle.coords.proofs.cartesian_to_spherical.Reads as reads
-use Rattle.coords.proofs.cartesian_to_spherical.Lts as lts
-use Rattle.angles.proofs.atan2.Reads as atan2-reads
-use Rattle.coords.proofs.radius.Reads as radius-reads
-use Rattle.root.proofs.root.Reads as root-reads
 
 atan2-requires : tie.Need-atan2-requires
 atan2-requires c κs = search needs

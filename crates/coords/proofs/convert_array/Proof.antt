@@ -3,10 +3,6 @@ use denote.Ref.{now}
 use borrow.Author.Needs.{needs}
 use Rattle.coords.proofs.convert_array.Statement.{statement}
 use Rattle.coords.proofs.convert_array.Tie as tie
-use Rattle.coords.proofs.convert_array.Reads as reads
-use Rattle.coords.proofs.convert_array.Lts as lts
-use Rattle.coords.proofs.convert_triplets.Reads as convert-triplets-reads
-use Rattle.limits.proofs.judge_values.Reads as judge-values-reads
 
 judge-values-requires : tie.Need-judge-values-requires
 judge-values-requires c κs = search needs

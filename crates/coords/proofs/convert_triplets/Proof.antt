@@ -1,34 +1,33 @@
 use mathlib.Core.Path.{_≡_, refl, sym, ap, _∙_}
-use Rattle.coords.specs.Arrays.{turned, byTriplets, tripletAt}
-use Prim.Native.Nat.{_+_, _-_, _%_, _≤_, _<_}
+use Rattle.coords.specs.Arrays.{turned, byTriplets}
+use Prim.Native.Nat.{_+_, _*_, _/_, _-_, _≤_, _<_}
 use mathlib.Core.List.{_++_}
-use lib.ListN.{length, take, drop, set, length-set}
+use lib.ListN.{length, take, drop, length-set}
 use native.Mathlib.Omega.{arith}
 use Rattle.coords.proofs.Triplets.{turn, done}
-use denote.Ref.{now}
 use borrow.Author.Needs.{needs}
 use Rattle.coords.proofs.convert_triplets.Statement.{statement}
 use Rattle.coords.proofs.convert_triplets.Tie as tie
-use Rattle.coords.proofs.convert_triplets.Reads as reads
-use Rattle.coords.proofs.convert_triplets.Lts as lts
-use Rattle.coords.proofs.turn_at.Reads as turn-at-reads
 
 abbrev Inv-loop : tie.InvT-loop
-Inv-loop kind values₀ whole i₀ values i =
-    (i ≤ length values₀ - length values₀ % 3) × (i % 3 ≡ 0) × (length values ≡ length values₀)
-    × (take i values ++ byTriplets (turned kind) (drop i values) ≡ byTriplets (turned kind) values₀)
+Inv-loop kind values₀ count place₀ values place =
+    (place ≤ length values₀ / 3) × (length values ≡ length values₀)
+    × (take (3 * place) values ++ byTriplets (turned kind) (drop (3 * place) values) ≡ byTriplets (turned kind) values₀)
 
 abbrev μ-loop : tie.MeasureT-loop
-μ-loop kind values₀ whole i₀ values i = whole - i
-
-sub-whole : tie.Need-sub-whole Inv-loop μ-loop
-sub-whole c = search needs
+μ-loop kind values₀ count place₀ values place = length values₀ / 3 - place
 
 loop-holds : tie.Need-loop-holds Inv-loop μ-loop
-loop-holds c = (omega arith, omega arith, refl, refl)
+loop-holds c = (omega arith, refl, refl)
 
-turn-at-requires : tie.Need-turn-at-requires Inv-loop μ-loop
-turn-at-requires c κs = let h : c .before .before .loop .i + 2 < length (c .before .before .loop .values) = omega arith in h
+point-at-requires : tie.Need-point-at-requires Inv-loop μ-loop
+point-at-requires c κs = let h : 3 * c .before .before .loop .place + 2 < length (c .before .before .loop .values) = omega arith in h
+
+turn-triplet-requires : tie.Need-turn-triplet-requires Inv-loop μ-loop
+turn-triplet-requires c κs = search needs
+
+mul-at : tie.Need-mul-at Inv-loop μ-loop
+mul-at c = search needs
 
 mul-values : tie.Need-mul-values Inv-loop μ-loop
 mul-values c = search needs
@@ -54,23 +53,21 @@ mul-values-3 c = search needs
 slice-write-values-3 : tie.Need-slice-write-values-3 Inv-loop μ-loop
 slice-write-values-3 c = simp length-set (omega arith)
 
-add-i : tie.Need-add-i Inv-loop μ-loop
-add-i c = search needs
+add-place : tie.Need-add-place Inv-loop μ-loop
+add-place c = search needs
 
 loop-less : tie.Need-loop-less Inv-loop μ-loop
 loop-less c = search needs
 
 loop-again : tie.Need-loop-again Inv-loop μ-loop
 loop-again c =
-    let l = c .before .before .before in
+    let l = c .before .before .before .before in
     let a = l .before .before .args in
-    let i = l .loop .i in
     let xs = l .loop .values in
-    let t = c .turn-at .result in (
+    let f = turned (a .kind) in (
       omega arith,
-      omega arith,
-      simp length-set (l .loop .inv .2),
-      turn (turned (a .kind)) xs i t (c .turn-at .ensures) (omega arith) _ refl ∙ l .loop .inv .3,
+      simp length-set (l .loop .inv .1),
+      turn f xs (l .loop .place) (omega arith) (c .turn-triplet .result) (c .turn-triplet .ensures ∙ ap f (c .before .point-at .ensures)) _ refl ∙ l .loop .inv .2,
     )
 
 same-length : tie.Need-same-length Inv-loop μ-loop
@@ -79,7 +76,7 @@ same-length c = search needs
 returns : tie.Need-returns Inv-loop μ-loop
 returns c =
     let l = c .before .loop in
-    sym (done (turned (c .before .before .before .args .kind)) (l .values) (l .i) (omega arith)) ∙ l .inv .3
+    sym (done (turned (c .before .before .before .args .kind)) (l .values) (3 * l .place) (omega arith)) ∙ l .inv .2
 
 pub convert-triplets-spec : {M : Type 1} → statement M
 convert-triplets-spec =
@@ -87,9 +84,10 @@ convert-triplets-spec =
     (tie.spec
     Inv-loop
     μ-loop
-    sub-whole
     loop-holds
-    turn-at-requires
+    point-at-requires
+    turn-triplet-requires
+    mul-at
     mul-values
     slice-write-values
     add-values
@@ -98,7 +96,7 @@ convert-triplets-spec =
     add-values-2
     mul-values-3
     slice-write-values-3
-    add-i
+    add-place
     loop-less
     loop-again
     same-length

@@ -2,9 +2,6 @@ use Rattle.coords.specs.Coords.{radiusOf}
 use borrow.Author.Needs.{needs}
 use Rattle.coords.proofs.radius.Statement.{statement}
 use Rattle.coords.proofs.radius.Tie as tie
-use Rattle.coords.proofs.radius.Reads as reads
-use Rattle.coords.proofs.radius.Lts as lts
-use Rattle.root.proofs.root.Reads as root-reads
 
 root-requires : tie.Need-root-requires
 root-requires c κs = search needs

@@ -2,10 +2,6 @@ use Rattle.coords.specs.Coords.{cartesianOf}
 use borrow.Author.Needs.{needs}
 use Rattle.coords.proofs.spherical_to_cartesian.Statement.{statement}
 use Rattle.coords.proofs.spherical_to_cartesian.Tie as tie
-use Rattle.coords.proofs.spherical_to_cartesian.Reads as reads
-use Rattle.coords.proofs.spherical_to_cartesian.Lts as lts
-use Rattle.coords.proofs.along.Reads as along-reads
-use Rattle.coords.proofs.turn_of.Reads as turn-of-reads
 
 turn-of-requires : tie.Need-turn-of-requires
 turn-of-requires c κs = search needs

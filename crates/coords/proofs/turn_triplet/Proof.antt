@@ -1,16 +1,10 @@
 use Rattle.coords.specs.Arrays.{turned, laid}
-use mathlib.Core.Path.{_≡_, refl, sym, ap, _∙_}
+use mathlib.Core.Path.{ap}
 use Rattle.coords.specs.Arrays.{turned}
-use borrow.Author.Tests.{eq-eqb, ne-eqb}
-use Rattle.points.specs.declared.Point3.{Point3}
-use Rattle.coords.specs.declared.Spherical.{Spherical}
+use borrow.Author.Tests.{ne-eqb}
 use borrow.Author.Needs.{needs}
 use Rattle.coords.proofs.turn_triplet.Statement.{statement}
 use Rattle.coords.proofs.turn_triplet.Tie as tie
-use Rattle.coords.proofs.turn_triplet.Reads as reads
-use Rattle.coords.proofs.turn_triplet.Lts as lts
-use Rattle.coords.proofs.cartesian_to_spherical.Reads as cartesian-to-spherical-reads
-use Rattle.coords.proofs.spherical_to_cartesian.Reads as spherical-to-cartesian-reads
 
 cartesian-to-spherical-requires : tie.Need-cartesian-to-spherical-requires
 cartesian-to-spherical-requires c κs = search needs
