@@ -1,0 +1,118 @@
+-- Document 01's "Neighbours": the first found number other than its own, by steps in one of six directions, and the table of all of them. Definitions only.
+use mathlib.Core.Bool.{Bool, true, false, cond, _||_}
+use mathlib.Core.List.{List}
+use Prim.Native.Nat.{ℕ, zero, suc, _+_, _*_, _/_, _%_}
+use lib.Dec.{eqb, ltb}
+use lib.IntN.{pos}
+use lib.ListN.{set}
+use lib.Ieee.{Float, binary32, add, sub, mul, div, neg, lt, ofBits, ofInt}
+use Rattle.floats.specs.Floats.{zero32, absOf, maxOf, clampOf, ceilOf}
+use Rattle.points.specs.Points.{pointAt}
+use Rattle.coords.specs.declared.Spherical.{Spherical}
+use Rattle.coords.specs.Coords.{sphericalOf, cartesianOf}
+use Rattle.limits.specs.declared.Verdict.{Verdict}
+use Rattle.limits.specs.declared.Verdict.the-variants as verdict
+use Rattle.lookup.specs.declared.Lookup.{Lookup}
+use Rattle.lookup.specs.declared.Located.{Located}
+use Rattle.lookup.specs.declared.Located.the-variants.{At, Refused}
+use Rattle.lookup.specs.Lookup.{locateOf}
+
+-- ---- one step
+
+-- the value after s steps
+unfoldable pub after : Float → Float → ℕ → Float
+after v step s = add binary32 v (mul binary32 step (ofInt binary32 (pos s)))
+
+-- an elevation from -90 to 90, a radius of at least 0.001
+unfoldable pub tilted : Float → Float
+tilted v = clampOf v (ofBits binary32 0xc2b40000) (ofBits binary32 0x42b40000)
+
+unfoldable pub distant : Float → Float
+distant v = maxOf v (ofBits binary32 0x3a83126f)
+
+unfoldable pub moved : Spherical → Spherical → ℕ → Spherical
+moved from step s = record {
+  azimuth = after (from .azimuth) (step .azimuth) s;
+  elevation = tilted (after (from .elevation) (step .elevation) s);
+  radius = distant (after (from .radius) (step .radius) s);
+}
+
+-- the radius is below least - |radius step|, or above greatest + |radius step|
+unfoldable pub leaves : Lookup → Float → Float → Bool
+leaves look step r = lt r (sub binary32 (look .«radius_min») (absOf step)) || lt (add binary32 (look .«radius_max») (absOf step)) r
+
+-- ---- six directions
+
+abbrev pub steps : Float → Float → Float → Spherical
+steps a e r = record { azimuth = a; elevation = e; radius = r }
+
+-- azimuth +, -, elevation +, -, radius +, -
+unfoldable pub stepOf : ℕ → Float → Float → Spherical
+stepOf d angle radius =
+    cond (eqb d 0) (steps angle zero32 zero32)
+    (cond (eqb d 1) (steps (neg angle) zero32 zero32)
+    (cond (eqb d 2) (steps zero32 angle zero32)
+    (cond (eqb d 3) (steps zero32 (neg angle) zero32)
+    (cond (eqb d 4) (steps zero32 zero32 radius) (steps zero32 zero32 (neg radius))))))
+
+-- the ceiling of the rounded 45 / step
+unfoldable pub angleCap : Float → ℕ
+angleCap angle = ceilOf (div binary32 (ofBits binary32 0x42340000) angle)
+
+-- or 100 for radius
+unfoldable pub capOf : ℕ → Float → ℕ
+capOf d angle = cond (ltb d 4) (angleCap angle) 100
+
+-- ---- one search
+
+-- a number other than its own is the neighbour, and a refusal is passed on
+unfoldable pub unlessOwn : ℕ → Located → Located → Located
+unlessOwn own (At n) further = cond (eqb n own) further (At n)
+unlessOwn own (Refused k p) further = Refused k p
+
+module _ (look : Lookup) (m : ℕ) (xs : List Float) (left right : List ℕ) where
+  -- k steps are left when i are done; 65535 for absent
+  unfoldable pub going : ℕ → Spherical → Spherical → ℕ → ℕ → Located
+  going own from step zero i = At 65535
+  going own from step (suc k) i =
+      let there = moved from step (i + 1) in
+      elim (leaves look (step .radius) (there .radius)) [ true ↦ At 65535 | false ↦ unlessOwn own (locateOf look m xs left right (cartesianOf there)) (going own from step k (i + 1)) ]
+
+  unfoldable pub directionOf : ℕ → Spherical → Spherical → ℕ → Located
+  directionOf own from step cap = going own from step cap 0
+
+  -- the entry of a measurement and a direction
+  unfoldable pub neighborOf : Float → Float → ℕ → ℕ → Located
+  neighborOf angle radius own d = directionOf own (sphericalOf (pointAt xs own)) (stepOf d angle radius) (capOf d angle)
+
+  -- the entry at a place of the table
+  unfoldable pub entryOf : Float → Float → ℕ → Located
+  entryOf angle radius k = neighborOf angle radius (k / 6) (k % 6)
+
+-- ---- the table
+
+-- what a call answers, and what the table then holds
+pub record Tabled : Type 0 where
+  pub answer : Verdict
+  pub table : List ℕ
+
+abbrev pub tabledAs : Verdict → List ℕ → Tabled
+tabledAs v d = record { answer = v; table = d }
+
+abbrev pub byEntry : Located → List ℕ → (ℕ → Tabled) → Tabled
+byEntry (At n) d f = f n
+byEntry (Refused k p) d f = tabledAs (verdict.Refused k p) d
+
+-- j entries from the place k on, until one refuses
+module _ (entry : ℕ → Located) where
+  unfoldable pub writing : ℕ → ℕ → List ℕ → Tabled
+  writing zero k d = tabledAs verdict.Fine d
+  writing (suc j) k d = byEntry (entry k) d (λ n. writing j (k + 1) (set d k n))
+
+-- the six entries of a measurement
+unfoldable pub rowOf : Lookup → ℕ → List Float → List ℕ → List ℕ → Float → Float → ℕ → List ℕ → Tabled
+rowOf look m xs left right angle radius own d = writing (entryOf look m xs left right angle radius) 6 (6 * own) d
+
+-- all 6m of them
+unfoldable pub tableOf : Lookup → ℕ → List Float → List ℕ → List ℕ → Float → Float → List ℕ → Tabled
+tableOf look m xs left right angle radius d = writing (entryOf look m xs left right angle radius) (6 * m) 0 d

@@ -1,0 +1,199 @@
+// The six neighbours of each measurement, by steps in six directions: neighbors.rs over lent lists.
+//
+// `search_direction` promises the first found number other than the measurement's own, 65535 where no step before the end gives one
+// (`directionOf`, specs/Neighbors.antt); `find_neighbors` writes the six of one measurement, `fill_neighbors` those of all, 6m entries
+// and nothing past them (`tableOf`). The definitions take each step's sine and cosine anew; the code takes those of an angle that
+// stays fixed once a search, and proofs/Fixed.antt says why that is the same bit for bit.
+//
+// The crate `neighbor_laws` has what this means for a set that was loaded: no entry is refused, so a load never says 9, and each
+// entry is 65535 or the number of another measurement.
+use coords::Spherical;
+use coords::Turn;
+use limits::Verdict;
+use lookup::Located;
+use lookup::Lookup;
+ghost use mathlib.Core.Path.{_≡_};
+ghost use mathlib.Core.Bool.{cond, _&&_};
+ghost use Prim.Native.Nat.{_+_, _*_, _<_, _≤_};
+ghost use lib.Dec.{ltb};
+ghost use lib.ListN.{length};
+ghost use lib.Ieee.{eq};
+ghost use Rattle.floats.specs.Floats.{zero32};
+ghost use Rattle.coords.specs.Coords.{turnOf};
+ghost use Rattle.neighbors.specs.Neighbors.{after, moved, leaves, steps, stepOf, capOf, directionOf, tabledAs, rowOf, tableOf};
+
+fn after_steps(v: f32, step: f32, s: u32) -> f32
+    ensures { λ r. ⌜ r ≡ after v step s ⌝ }
+{
+    v + step * std::num::nearest_u32_to_f32(s)
+}
+
+// Where s steps lead.
+fn step_to(from: Spherical, step: Spherical, s: u32) -> Spherical
+    ensures { λ r. ⌜ r ≡ moved from step s ⌝ }
+{
+    let elevation = after_steps(from.elevation, step.elevation, s);
+    Spherical {
+        azimuth: after_steps(from.azimuth, step.azimuth, s),
+        elevation: floats::clamp(elevation, -90.0, 90.0),
+        radius: floats::max(after_steps(from.radius, step.radius, s), 0.001),
+    }
+}
+
+// The radius has left the measured ones by more than a step.
+fn has_left(look: Lookup, step: f32, radius: f32) -> bool
+    ensures { λ r. ⌜ r ≡ leaves look step radius ⌝ }
+{
+    let size = floats::abs(step);
+    (radius < look.radius_min - size) | (radius > look.radius_max + size)
+}
+
+// The sine and cosine of the angle that a step came to; one that stays fixed is as it was at the step before.
+fn turned(before: Turn, step: f32, i: u32, degrees: f32) -> Turn
+    ensures { λ r. ⌜ r ≡ cond (ltb 0 i && eq step zero32) before (turnOf degrees) ⌝ }
+{
+    if (0 < i) & (step == 0.0) {
+        before
+    } else {
+        coords::turn_of(degrees)
+    }
+}
+
+// The first found number other than its own, 65535 if there is none.
+fn search_direction(
+    look: Lookup,
+    m: usize,
+    cartesian: &[f32],
+    left: &[u16],
+    right: &[u16],
+    own: u16,
+    from: Spherical,
+    step: Spherical,
+    cap: u32,
+) -> Located
+    requires { ⌜ (0 < m) × (3 * m ≤ length (now cartesian)) × (m ≤ length (now left)) × (m ≤ length (now right)) × (m ≤ 16384) ⌝ }
+    ensures { λ r. ⌜ r ≡ directionOf look m (now (cartesian .entry)) (now (left .entry)) (now (right .entry)) own from step cap ⌝ }
+{
+    let mut phi = Turn { sin: 0.0, cos: 1.0 };
+    let mut theta = phi;
+    let mut i: u32 = 0;
+    while i < cap {
+        let there = step_to(from, step, i + 1);
+        if has_left(look, step.radius, there.radius) {
+            return Located::At(65535);
+        }
+        phi = turned(phi, step.azimuth, i, there.azimuth);
+        theta = turned(theta, step.elevation, i, there.elevation);
+        let q = coords::along(phi, theta, there.radius);
+        let found = look.locate(m, cartesian, left, right, q);
+        let Located::At(n) = found else {
+            return found;
+        };
+        if n != own {
+            return found;
+        }
+        i += 1;
+    }
+    Located::At(65535)
+}
+
+// Azimuth +, −, elevation +, −, radius +, −.
+fn step_along(direction: usize, angle_step: f32, radius_step: f32) -> Spherical
+    ensures { λ r. ⌜ r ≡ stepOf direction «angle_step» «radius_step» ⌝ }
+{
+    match direction {
+        0 => steps(angle_step, 0.0, 0.0),
+        1 => steps(-angle_step, 0.0, 0.0),
+        2 => steps(0.0, angle_step, 0.0),
+        3 => steps(0.0, -angle_step, 0.0),
+        4 => steps(0.0, 0.0, radius_step),
+        _ => steps(0.0, 0.0, -radius_step),
+    }
+}
+
+fn steps(azimuth: f32, elevation: f32, radius: f32) -> Spherical
+    ensures { λ r. ⌜ r ≡ steps azimuth elevation radius ⌝ }
+{
+    Spherical {
+        azimuth,
+        elevation,
+        radius,
+    }
+}
+
+// 45 degrees are reached and, where the step does not divide them, passed.
+fn max_steps(direction: usize, angle_step: f32) -> u32
+    ensures { λ r. ⌜ r ≡ capOf direction «angle_step» ⌝ }
+{
+    if direction < 4 {
+        floats::ceil(45.0 / angle_step)
+    } else {
+        100
+    }
+}
+
+// Writes the six neighbours of a measurement; a refusal ends it.
+fn find_neighbors(
+    look: Lookup,
+    m: usize,
+    cartesian: &[f32],
+    left: &[u16],
+    right: &[u16],
+    angle_step: f32,
+    radius_step: f32,
+    own: usize,
+    neighbors: &mut [u16],
+) -> Verdict
+    requires { ⌜ (own < m) × (3 * m ≤ length (now cartesian)) × (m ≤ length (now left)) × (m ≤ length (now right)) × (m ≤ 16384) × (6 * m ≤ length (now neighbors)) ⌝ }
+    ensures { λ r. ⌜ tabledAs r (now (neighbors .exit)) ≡ rowOf look m (now (cartesian .entry)) (now (left .entry)) (now (right .entry)) «angle_step» «radius_step» own (now (neighbors .entry)) ⌝ }
+{
+    let from = coords::cartesian_to_spherical(points::point_at(cartesian, own));
+    let number = own as u16;
+    let mut d = 0;
+    while d < 6 {
+        let step = step_along(d, angle_step, radius_step);
+        let cap = max_steps(d, angle_step);
+        let found = search_direction(look, m, cartesian, left, right, number, from, step, cap);
+        let Located::At(n) = found else {
+            return lookup::verdict(found);
+        };
+        neighbors[6 * own + d] = n;
+        d += 1;
+    }
+    Verdict::Fine
+}
+
+// The table of all measurements; a refusal ends it, which a loaded set never meets.
+pub fn fill_neighbors(
+    look: Lookup,
+    m: usize,
+    cartesian: &[f32],
+    left: &[u16],
+    right: &[u16],
+    angle_step: f32,
+    radius_step: f32,
+    neighbors: &mut [u16],
+) -> Verdict
+    requires { ⌜ (3 * m ≤ length (now cartesian)) × (m ≤ length (now left)) × (m ≤ length (now right)) × (m ≤ 16384) × (6 * m ≤ length (now neighbors)) ⌝ }
+    ensures { λ r. ⌜ tabledAs r (now (neighbors .exit)) ≡ tableOf look m (now (cartesian .entry)) (now (left .entry)) (now (right .entry)) «angle_step» «radius_step» (now (neighbors .entry)) ⌝ }
+{
+    let mut i = 0;
+    while i < m {
+        let told = find_neighbors(
+            look,
+            m,
+            cartesian,
+            left,
+            right,
+            angle_step,
+            radius_step,
+            i,
+            neighbors,
+        );
+        let Verdict::Fine = told else {
+            return told;
+        };
+        i += 1;
+    }
+    Verdict::Fine
+}

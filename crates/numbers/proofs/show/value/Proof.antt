@@ -1,0 +1,21 @@
+use mathlib.Core.Path.{sym, _∙_, subst}
+use mathlib.Core.Bool.{Bool, not}
+use lib.Dec.{T}
+use lib.Ieee.{binary32}
+use lib.Ieee.Bits.{nanBits-above}
+use borrow.Author.Tests.{le-ltb}
+use borrow.Author.Needs.{needs}
+use Rattle.numbers.proofs.show.value.Statement.{statement}
+use Rattle.numbers.proofs.show.value.Tie as tie
+
+returns : tie.Need-returns
+returns c = search needs
+
+float-from-bits-result : tie.Need-float-from-bits-result
+float-from-bits-result c = subst (λ (b : Bool). T (not b)) (sym (nanBits-above binary32 (c .before .args .bits) ∙ le-ltb _ _ (c .if1 .left))) tt
+
+returns-2 : tie.Need-returns-2
+returns-2 c = search needs
+
+pub value-spec : {M : Type 1} → statement M
+value-spec = tie.close (tie.spec returns float-from-bits-result returns-2)
