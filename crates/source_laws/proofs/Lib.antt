@@ -1,2 +1,4 @@
 pub mod Shapes
 pub mod Search
+pub mod Insert
+pub mod Linked
