@@ -4,3 +4,6 @@ pub mod Insert
 pub mod Linked
 pub mod Built
 pub mod Find
+pub mod Caps
+pub mod Steps
+pub mod Table

@@ -1,6 +1,6 @@
 -- How the port's lists and structs stand for the source's values. Definitions only.
 use mathlib.Core.List.{List}
-use Prim.Native.Nat.{ℕ, _*_}
+use Prim.Native.Nat.{ℕ, zero, suc, _*_}
 use lib.ListN.{take}
 use lib.Ieee.{Float}
 use Rattle.points.specs.declared.Point3.{Point3}
@@ -8,8 +8,9 @@ use Rattle.kdtree.specs.declared.BoundingBox.{BoundingBox}
 use Rattle.kdtree.specs.Geometry.{nextAxis}
 use Rattle.kdtree.specs.Tree.{Tree, gone, bad, node}
 use Rattle.angles.specs.Says.{sinOf, cosOf, atan2Of}
-use Rattle.source.specs.Rust.{Angles}
+use Rattle.source.specs.Rust.{Option, None, Some, Angles}
 use Rattle.source.specs.Lookup.{Hrtf}
+use Rattle.source.specs.Neighbors.{Neighbors}
 use Rattle.source.specs.Kdtree as source
 use Rattle.source.specs.Kdtree.{Link, KdNode, kdNode, none, some}
 
@@ -39,3 +40,17 @@ hrtfOf m r n xs responses delays rate = record {
   «data_delay» = delays;
   «sample_rate» = rate;
 }
+
+-- an Option as an entry of the port's table: 65535 for None
+unfoldable pub entered : Option ℕ → ℕ
+entered None = 65535
+entered (Some k) = k
+
+-- the source's six by the order of the table
+unfoldable pub sixth : Neighbors → ℕ → Option ℕ
+sixth s zero = s .«phi_plus»
+sixth s (suc zero) = s .«phi_minus»
+sixth s (suc (suc zero)) = s .«theta_plus»
+sixth s (suc (suc (suc zero))) = s .«theta_minus»
+sixth s (suc (suc (suc (suc zero)))) = s .«radius_plus»
+sixth s (suc (suc (suc (suc (suc d))))) = s .«radius_minus»
