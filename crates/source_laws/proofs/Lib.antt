@@ -1,0 +1,9 @@
+pub mod Shapes
+pub mod Search
+pub mod Insert
+pub mod Linked
+pub mod Built
+pub mod Find
+pub mod Caps
+pub mod Steps
+pub mod Table
