@@ -82,22 +82,23 @@ module _ {S : Type 0} (ended : S → Bool) (onLine : S → List ℕ → S) where
         ∙ ap (λ (a : At S). choose (eqb b 10) (runs ended onLine keep here s) a) (by-lines k (keep (have ++ (b ∷ []))) s e)
         ∙ sym (after-pick k (eqb b 10) (line have s) (cut keep (keep (have ++ (b ∷ []))) s))
 
-  -- The buffer does not show in what is known, where `onLine` does not look past its room
-  pub runs-kept : (room : ℕ) → ((k : S) (l : List ℕ) → onLine k (take room l) ≡ onLine k l) → (k : S) (have s : List ℕ)
+  -- The buffer does not show in what is known, where `onLine` does not look past its room; P is what holds of all that is known
+  pub runs-kept : (room : ℕ) (P : S → Type 0) → ((k : S) (l : List ℕ) → P k → P (onLine k l)) → ((k : S) (l : List ℕ) → P k → onLine k (take room l) ≡ onLine k l)
+      → (k : S) (have s : List ℕ) → P k
       → runs ended onLine (take room) (record { known = k; have = take room have }) s ≡ shortAt room (runs ended onLine whole (record { known = k; have = have }) s)
   unfolding runs byte choose
-  runs-kept room blind k have [] = refl
-  runs-kept room blind k have (b ∷ s) = step (λ k h. runs-kept room blind k h s) (ended k) (eqb b 10)
+  runs-kept room P holds blind k have [] p = refl
+  runs-kept room P holds blind k have (b ∷ s) p = step (λ k h p. runs-kept room P holds blind k h s p) (ended k) (eqb b 10)
     where
-      step : ((k : S) (h : List ℕ) → runs ended onLine (take room) (record { known = k; have = take room h }) s ≡ shortAt room (runs ended onLine whole (record { known = k; have = h }) s))
+      step : ((k : S) (h : List ℕ) → P k → runs ended onLine (take room) (record { known = k; have = take room h }) s ≡ shortAt room (runs ended onLine whole (record { known = k; have = h }) s))
           → (e n : Bool)
           → runs ended onLine (take room) (choose e (record { known = k; have = take room have }) (choose n (record { known = onLine k (take room have); have = [] }) (record { known = k; have = take room (take room have ++ (b ∷ [])) }))) s
           ≡ shortAt room (runs ended onLine whole (choose e (record { known = k; have = have }) (choose n (record { known = onLine k have; have = [] }) (record { known = k; have = have ++ (b ∷ []) }))) s)
-      step on true n = on k have
+      step on true n = on k have p
       step on false true =
-          rw (blind k have)
-          (ap (λ (h : List ℕ). runs ended onLine (take room) (record { known = onLine k have; have = h }) s) (sym (take-nil {A = ℕ} room)) ∙ on (onLine k have) [])
-      step on false false = rw (kept-on room have (b ∷ [])) (on k (have ++ (b ∷ [])))
+          rw (blind k have p)
+          (ap (λ (h : List ℕ). runs ended onLine (take room) (record { known = onLine k have; have = h }) s) (sym (take-nil {A = ℕ} room)) ∙ on (onLine k have) [] (holds k have p))
+      step on false false = rw (kept-on room have (b ∷ [])) (on k (have ++ (b ∷ [])) p)
 
   reads-stays : (k : S) (ls : List (List ℕ)) → ended k ≡ true → reads ended onLine k ls ≡ k
   unfolding reads choose

@@ -2,7 +2,7 @@
 use Prim.Native.Nat.{ℕ, _≤_}
 use mathlib.Core.Path.{_≡_}
 use mathlib.Core.Bool.{Bool, true, false}
-use mathlib.Core.List.{List, [], _∷_}
+use mathlib.Core.List.{List, [], _∷_, _++_}
 use lib.ListN.{length, take}
 use Rattle.lines.specs.Machine.{At, split, reads, runs}
 use Rattle.settext.specs.declared.State.{State}
@@ -72,3 +72,8 @@ pub record TookSays (chunk buf buf′ : List ℕ) (t r : Reading) (d d′ : List
 unfoldable pub feed : ℕ → At After → List (List ℕ) → At After
 feed room a [] = a
 feed room a (c ∷ cs) = feed room (chunkOf room a c) cs
+
+-- chunks put together
+unfoldable pub joined : List (List ℕ) → List ℕ
+joined [] = []
+joined (c ∷ cs) = c ++ joined cs
