@@ -4,7 +4,8 @@ use mathlib.Core.Path.{_≡_, refl, ap, _∙_}
 use mathlib.Core.List.{List, [], _∷_, _++_}
 use native.Mathlib.Nat.{pow-suc, mul-div-cancel}
 use native.Mathlib.Omega.{arith}
-use lib.Dec.{lit<}
+use mathlib.Core.Bool.{Bool, true, false, cond}
+use lib.Dec.{ltb, lit<, lit≤}
 use lib.ListN.{length, length-append}
 use borrow.Author.Tests.{lt-ltb, le-ltb}
 use Rattle.text.specs.Print.{decimalIn, decimalText}
@@ -37,3 +38,17 @@ last-digit x h g =
 
 pub last-length : (x : ℕ) → 10 ≤ x → x < 18446744073709551616 → length (decimalText x) ≡ length (decimalText (x / 10)) + 1
 last-length x h g = ap length (last-digit x h g) ∙ length-append (decimalText (x / 10)) ((48 + x % 10) ∷ [])
+
+-- the decimal of a number has at most 20 digits
+within : (room x : ℕ) → length (decimalIn room x) ≤ room
+unfolding decimalIn
+within zero x = lit≤ tt
+within (suc room) x = by (ltb x 10) (within room (x / 10))
+  where
+    by : (b : Bool) → length (decimalIn room (x / 10)) ≤ room → length (cond b ((48 + x) ∷ []) (decimalIn room (x / 10) ++ ((48 + x % 10) ∷ []))) ≤ suc room
+    by true h = omega arith
+    by false h = simp length-append (omega arith)
+
+pub decimal-length : (x : ℕ) → length (decimalText x) ≤ 20
+unfolding decimalText
+decimal-length x = within 20 x
