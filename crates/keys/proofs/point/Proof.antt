@@ -1,0 +1,47 @@
+-- `keys::point` meets its contract. Assumes nothing.
+use mathlib.Core.Path.{sym, _∙_}
+use native.Mathlib.Omega.{arith}
+use lib.Dec.{lit<}
+use Prim.Native.Nat.{_≤_}
+use lib.ListN.{length}
+use denote.Ref.{now}
+use Rattle.text.proofs.Reading.{measured}
+use Rattle.keys.specs.Keys.{pointIn, pointOf}
+use borrow.Author.Needs.{needs}
+use Rattle.keys.proofs.point.Statement.{statement}
+use Rattle.keys.proofs.point.Tie as tie
+
+values-ok-requires : tie.Need-values-ok-requires
+values-ok-requires c κs = search needs
+
+-- three values and two commas
+long : (c : tie.Then1) → 26 ≤ length (now (c .before .before .before .args .s))
+long c = omega (arith, measured (now (c .before .before .before .args .s)) 3 (lit< tt) (sym (c .before .values-ok .ensures) ∙ c .if1 .taken))
+
+value-at-requires : tie.Need-value-at-requires
+value-at-requires c κs = omega (arith, long c)
+
+value-at-requires-2 : tie.Need-value-at-requires-2
+value-at-requires-2 c κs = omega (arith, long (c .before))
+
+value-at-requires-3 : tie.Need-value-at-requires-3
+value-at-requires-3 c κs = omega (arith, long (c .before .before))
+
+returns : tie.Need-returns
+unfolding pointIn pointOf
+returns c = rw (sym (c .before .before .before .before .values-ok .ensures) ∙ c .before .before .before .if1 .taken) (cc)
+
+returns-2 : tie.Need-returns-2
+unfolding pointIn
+returns-2 c = rw (sym (c .before .values-ok .ensures) ∙ c .if1 .left)
+
+pub point-spec : {M : Type 1} → statement M
+point-spec =
+    tie.close
+    (tie.spec
+    values-ok-requires
+    value-at-requires
+    value-at-requires-2
+    value-at-requires-3
+    returns
+    returns-2)

@@ -1,0 +1,19 @@
+-- `settext::number` meets its contract. Assumes nothing.
+use native.Mathlib.Omega.{arith}
+use Rattle.settext.specs.State.{numberOf}
+use Rattle.settext.proofs.number.Statement.{statement}
+use Rattle.settext.proofs.number.Tie as tie
+
+add-result : tie.Need-add-result
+add-result c = omega arith
+
+returns : tie.Need-returns
+unfolding numberOf
+returns c = omega arith
+
+returns-2 : tie.Need-returns-2
+unfolding numberOf
+returns-2 c = omega arith
+
+pub number-spec : {M : Type 1} → statement M
+number-spec = tie.close (tie.spec add-result returns returns-2)

@@ -1,0 +1,118 @@
+-- `settext::take_line` meets its contract. Assumes nothing.
+use Prim.Native.Nat.{_-_}
+use mathlib.Core.Path.{refl}
+use native.Mathlib.Omega.{arith}
+use borrow.Author.Tests.{lt-ltb, le-ltb}
+use Rattle.keys.specs.Words.{bytes}
+use Rattle.settext.specs.Lines.{lineOf}
+use Rattle.settext.proofs.Laws.{product16, product48, same}
+use borrow.Author.Needs.{needs}
+use Rattle.settext.proofs.take_line.Statement.{statement}
+use Rattle.settext.proofs.take_line.Tie as tie
+
+key-line-requires : tie.Need-key-line-requires
+key-line-requires c κs = search needs
+
+returns : tie.Need-returns
+unfolding lineOf bytes
+returns c = simp (lt-ltb _ _ (c .before .if1 .taken)) (same (c .key-line .ensures) refl refl refl)
+
+cast-m : tie.Need-cast-m
+cast-m c = search needs
+
+slice-aggregate-values-line : tie.Need-slice-aggregate-values-line
+slice-aggregate-values-line c = search needs
+
+mul-values-line : tie.Need-mul-values-line
+mul-values-line c = omega arith
+
+values-line-requires : tie.Need-values-line-requires
+values-line-requires c κs = search needs
+
+same-length : tie.Need-same-length
+same-length c = search needs
+
+returns-2 : tie.Need-returns-2
+unfolding lineOf bytes
+returns-2 c = simp (le-ltb _ _ (c .before .before .before .before .before .before .before .if1 .left), lt-ltb _ _ (c .before .before .before .before .before .if2 .taken)) (same (c .before .before .values-line .ensures .0) (c .before .before .values-line .ensures .1) refl refl)
+
+cast-mr : tie.Need-cast-mr
+cast-mr c = search needs
+
+mul-mr : tie.Need-mul-mr
+mul-mr c =
+    let s = c .before .before .before .before .before .before .before .before .args .s in
+    omega (arith, product16 (s .m) (s .r) (omega arith) (omega arith))
+
+cast-n : tie.Need-cast-n
+cast-n c = search needs
+
+slice-aggregate-values-line-2 : tie.Need-slice-aggregate-values-line-2
+slice-aggregate-values-line-2 c = search needs
+
+mul-values-line-2 : tie.Need-mul-values-line-2
+mul-values-line-2 c =
+    let s = c .before .before .before .before .before .before .before .before .before .before .before .before .args .s in
+    let p = product16 (s .m) (s .r) (omega arith) (omega arith) in
+    omega (arith, product48 (s .lines - 9 - s .m) (s .n) (omega arith) (omega arith))
+
+values-line-requires-2 : tie.Need-values-line-requires-2
+values-line-requires-2 c κs = search needs
+
+same-length-2 : tie.Need-same-length-2
+same-length-2 c = search needs
+
+returns-3 : tie.Need-returns-3
+unfolding lineOf bytes
+returns-3 c = simp (le-ltb _ _ (c .before .before .before .before .before .before .before .before .before .before .if1 .left), le-ltb _ _ (c .before .before .before .before .before .before .before .before .if2 .left), lt-ltb _ _ (c .before .before .before .before .before .before .if3 .taken)) (same (c .before .before .values-line2 .ensures .0) refl (c .before .before .values-line2 .ensures .1) refl)
+
+cast-if4 : tie.Need-cast-if4
+cast-if4 c = search needs
+
+slice-aggregate-values-line-3 : tie.Need-slice-aggregate-values-line-3
+slice-aggregate-values-line-3 c = search needs
+
+values-line-requires-3 : tie.Need-values-line-requires-3
+values-line-requires-3 c κs = search needs
+
+same-length-3 : tie.Need-same-length-3
+same-length-3 c = search needs
+
+returns-4 : tie.Need-returns-4
+unfolding lineOf bytes
+returns-4 c = simp (le-ltb _ _ (c .before .before .before .before .before .before .before .before .before .before .before .if1 .left), le-ltb _ _ (c .before .before .before .before .before .before .before .before .before .if2 .left), le-ltb _ _ (c .before .before .before .before .before .before .before .if3 .left), lt-ltb _ _ (c .before .before .before .before .before .if4 .taken)) (same (c .before .before .values-line3 .ensures .0) refl refl (c .before .before .values-line3 .ensures .1))
+
+query-line-requires : tie.Need-query-line-requires
+query-line-requires c κs = search needs
+
+returns-5 : tie.Need-returns-5
+unfolding lineOf bytes
+returns-5 c = simp (le-ltb _ _ (c .before .before .before .before .before .before .before .if1 .left), le-ltb _ _ (c .before .before .before .before .before .if2 .left), le-ltb _ _ (c .before .before .before .if3 .left), le-ltb _ _ (c .before .if4 .left)) (same (c .query-line .ensures) refl refl refl)
+
+pub take-line-spec : {M : Type 1} → statement M
+take-line-spec =
+    tie.close
+    (tie.spec
+    key-line-requires
+    returns
+    cast-m
+    slice-aggregate-values-line
+    mul-values-line
+    values-line-requires
+    same-length
+    returns-2
+    cast-mr
+    mul-mr
+    cast-n
+    slice-aggregate-values-line-2
+    mul-values-line-2
+    values-line-requires-2
+    same-length-2
+    returns-3
+    cast-if4
+    slice-aggregate-values-line-3
+    values-line-requires-3
+    same-length-3
+    returns-4
+    query-line-requires
+    returns-5)
