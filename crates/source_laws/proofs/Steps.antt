@@ -102,8 +102,8 @@ module _ (xs : List Float) (n : ℕ) (small : suc n ≤ 16384) (left right : Lis
       turn-is k i ∙ ap (λ (c : Bool). cond c None (otherThan own (find built (cartesianOf (there i))) o)) (leaves-same (there i .radius))
       ∙ ap (λ (z : Option ℕ). cond b None (otherThan own z o)) (F .in-source) in (
         ap (λ (r : Located). elim b [ true ↦ At 65535 | false ↦ unlessOwn own r g ]) (F .in-port)
-        ∙ pick-same b (unlessOwn own (At (F .number)) g) (otherThan own (Some (F .number)) o) (own-same own (F .number) g o (ih .0))
-        ∙ ap (λ (z : Option ℕ). At (entered z)) (sym x),
+            ∙ pick-same b (unlessOwn own (At (F .number)) g) (otherThan own (Some (F .number)) o) (own-same own (F .number) g o (ih .0))
+            ∙ ap (λ (z : Option ℕ). At (entered z)) (sym x),
         subst (InSet (suc n)) (sym x) (pick-in b (suc n) (otherThan own (Some (F .number)) o) (own-in own (F .number) (suc n) o (F .below) (ih .1))),
       )
 
