@@ -5,7 +5,7 @@ use mathlib.Core.Path.{_≡_, refl, sym, ap, _∙_}
 use mathlib.Core.Bool.{false}
 use mathlib.Core.List.{List, [], _∷_}
 use native.Mathlib.Omega.{arith}
-use lib.Dec.{eqb, lit≤}
+use lib.Dec.{eqb}
 use lib.ListN.{length, take}
 use borrow.Author.Tests.{ne-eqb}
 use Rattle.lines.specs.Lines.{whole}
@@ -18,7 +18,7 @@ use Rattle.settext.specs.declared.End.{End}
 use Rattle.settext.specs.Lines.{Lists, After, endOf}
 use Rattle.setread.specs.Text.{stateOf, isBad, ended, onLine, begun, closeOf, Outcome, outcome, readText, chunkOf, feed, joined}
 use Rattle.setread.proofs.Long.{long-lines}
-use Rattle.setread.proofs.Small.{stays-small}
+use Rattle.setread.proofs.Reached.{Reached, begins-so, stays}
 
 -- chunk after chunk is the machine over all of them
 fed : (room : ℕ) (a : At After) (cs : List (List ℕ)) → feed room a cs ≡ chunkOf room a (joined cs)
@@ -64,8 +64,8 @@ pub in-chunks : (room : ℕ) → 40000 ≤ suc room → (d : Lists) (cs : List (
 in-chunks room h d cs =
     ap closed
     (fed (suc room) (first d) cs
-    ∙ runs-kept ended onLine (suc room) (λ a. stateOf (a .step) .n ≤ 4096) stays-small (λ a l p. blind a l p) (begun d) [] (joined cs) (lit≤ tt))
+    ∙ runs-kept ended onLine (suc room) (λ a. Reached (stateOf (a .step))) stays (λ a l p. blind a l p) (begun d) [] (joined cs) begins-so)
     ∙ by-all room d (joined cs)
   where
-    blind : (a : After) (l : List ℕ) → stateOf (a .step) .n ≤ 4096 → onLine a (take (suc room) l) ≡ onLine a l
-    blind a l p = unfold onLine in long-lines (suc room) h (stateOf (a .step)) l (a .lists) p
+    blind : (a : After) (l : List ℕ) → Reached (stateOf (a .step)) → onLine a (take (suc room) l) ≡ onLine a l
+    blind a l p = unfold onLine in long-lines (suc room) h (stateOf (a .step)) l (a .lists) (p .taps)

@@ -2,7 +2,8 @@
 //
 // `take_chunk` equals the machine of specs/Text.antt over the bytes of the chunk, and `finish` equals `closeOf`. proofs/Whole.antt shows that
 // chunks of any lengths, read with any buffer of at least 40000 bytes, come to `readText` of the whole text (`in-chunks`), and that the
-// buffer does not show because no well-formed line is longer, but for the word of `kind=` (proofs/Long.antt, `long-lines`).
+// buffer does not show because no well-formed line is longer, but for the word of `kind=` (proofs/Long.antt, `long-lines`). Lists of 768, 4096
+// and 4096 values always have room (proofs/Reached.antt, `has-room`).
 ghost use mathlib.Core.Path.{_≡_};
 ghost use Prim.Native.Nat.{_≤_};
 ghost use lib.ListN.{length};
