@@ -7,3 +7,6 @@ pub mod Find
 pub mod Caps
 pub mod Steps
 pub mod Table
+pub mod Ears
+pub mod Delays
+pub mod Points
