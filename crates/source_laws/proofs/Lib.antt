@@ -10,3 +10,4 @@ pub mod Table
 pub mod Ears
 pub mod Delays
 pub mod Points
+pub mod Blend

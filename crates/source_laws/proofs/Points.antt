@@ -10,6 +10,7 @@ use lib.ListN.{length, take}
 use lib.Ieee.{Float, nan, inf, fin, binary32, up, down, add, sum, div, neg, lt, round, ofBits}
 use borrow.Author.Tests.{ne-eqb, ltb-false, le-ltb}
 use Rattle.floats.specs.Floats.{zero32, one32}
+use Rattle.lists.specs.Each.{Each}
 use Rattle.floats.proofs.Sign.{nonneg}
 use Rattle.floats.proofs.Cross.{is-true}
 use Rattle.floats.proofs.Preorder.{lt-trans-f}
@@ -133,6 +134,42 @@ module _ (xs : List Float) (m : ℕ) (small : m ≤ 16384) (long : 3 * m ≤ len
       let z = closer q sp 3 (closer q sp 3 none a) b in
       pushed-same l (z .«best_idx») (z .«best_dist») (blend.closer d (blend.closer d nothing (entered a)) (entered b)) (t .number) (t .dist) (t .below)
 
+-- ---- the points are measurements of the set
+
+module _ (m : ℕ) where
+  abbrev pub AllIn : List Weighted → Type 0
+  AllIn l = Each (λ (w : Weighted). w .idx < m) l
+
+  all-more : (l : List Weighted) (w : Weighted) → AllIn l → w .idx < m → AllIn (l ++ (w ∷ []))
+  all-more [] w h g = (g, tt)
+  all-more (x ∷ l) w h g = (h .0, all-more l w (h .1) g)
+
+  pushed-in : (l : List Weighted) (o : Option ℕ) (x : Float) → AllIn l → InSet m o → AllIn (pushed l o x)
+  unfolding pushed
+  pushed-in l None x h g = h
+  pushed-in l (Some k) x h g = go (lt «1e-10» x)
+    where
+      go : (b : Bool) → AllIn (cond b (l ++ (weighed k x ∷ [])) l)
+      go true = all-more l (weighed k x) h g
+      go false = h
+
+  closer-in : (q : Point3) (sp : List Float) (b : Closer) (o : Option ℕ) → InSet m (b .«best_idx») → InSet m o → InSet m (closer q sp 3 b o .«best_idx»)
+  unfolding closer
+  closer-in q sp b None h g = h
+  closer-in q sp b (Some k) h g = go (leb (length sp) (k * 3 + 2)) (lt (distance (triplet sp (k * 3)) q) (b .«best_dist»))
+    where
+      go : (u v : Bool) → InSet m (cond u b (cond v (record { «best_idx» = Some k; «best_dist» = distance (triplet sp (k * 3)) q }) b) .«best_idx»)
+      go true v = h
+      go false true = g
+      go false false = h
+
+  pub added-in : (l : List Weighted) (a b : Option ℕ) (q : Point3) (sp : List Float) → AllIn l → InSet m a → InSet m b → AllIn («add_closer_neighbor» l a b q sp 3)
+  unfolding «add_closer_neighbor»
+  added-in l a b q sp h ha hb =
+      let none : Closer = record { «best_idx» = None; «best_dist» = MAX } in
+      let z = closer q sp 3 (closer q sp 3 none a) b in
+      pushed-in l (z .«best_idx») (z .«best_dist») h (closer-in q sp (closer q sp 3 none a) b (closer-in q sp none a tt ha) hb)
+
 -- ---- the sum of the weights
 
 -- a first weight that is not -0: from -0, as the source adds, and from +0 the sum is the same
@@ -147,18 +184,14 @@ sum-zero a b c e = go (ltb a b) refl
         let z : a - b ≡ a + b = omega arith in
         ap (λ (g : Bool). round binary32 g (a - b) c) (le-ltb b a (omega arith)) ∙ ap (λ (k : ℕ). round binary32 false k c) z
 
-minus-zero : (w : Float) → T (nonneg w) → add binary32 (neg zero32) w ≡ add binary32 zero32 w
+pub minus-zero : (w : Float) → T (nonneg w) → add binary32 (neg zero32) w ≡ add binary32 zero32 w
 unfolding add neg
 minus-zero nan h = absurd h
 minus-zero (inf s) h = refl
 minus-zero (fin true n e) h = absurd h
 minus-zero (fin false n e) h = sum-zero (0 * 1 * down e) (n * up e * 1) (1 * down e) (omega arith)
 
-sum-same : (s : Float) (l : List Weighted) → sumFrom s l ≡ totalFrom s (listed l)
+pub sum-same : (s : Float) (l : List Weighted) → sumFrom s l ≡ totalFrom s (listed l)
 unfolding sumFrom totalFrom
 sum-same s [] = refl
 sum-same s (w ∷ l) = sum-same (add binary32 s (w .weight)) l
-
-pub total-same : (w : Weighted) (l : List Weighted) → T (nonneg (w .weight)) → «weight_sum» (w ∷ l) ≡ totalOf (listed (w ∷ l))
-unfolding sumFrom totalFrom
-total-same w l h = ap (λ (s : Float). sumFrom s l) (minus-zero (w .weight) h) ∙ sum-same (add binary32 zero32 (w .weight)) l
