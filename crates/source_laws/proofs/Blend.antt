@@ -203,3 +203,19 @@ module _ (m r n : ℕ) (xs resp delays : List Float) (rate : Float) (small : m �
           delay-left = P .delay-left ∙ delayed-more 0 (f .«delay_left») (g .«delay_left») (part total (shared p)) ps (delay-left-is f p (h .0) fl fr);
           delay-right = P .delay-right ∙ delayed-more 1 (f .«delay_right») (g .«delay_right») (part total (shared p)) ps (delay-right-is f p (h .0) fl fr);
         }
+
+  -- ---- the blend of a list of points
+
+  module _ (sofar : Sofar) (is : sofar .hrtf ≡ set) (out : reader.Filter) where
+    -- THE BLEND OF WEIGHED POINTS
+    pub blend-same : (total : Float) (l : List Weighted) → AllIn m l
+        → filledOr sofar out (Some (addPoints set total (silent n) l)) ≡ heard (blendOf m r n resp delays rate (length (out .left)) (length (out .right)) (map (part total) (listed l)))
+    unfolding blendOf blendDelay
+    blend-same total l h =
+        let ps = map (part total) (listed l) in
+        let P = passes total l (silent n) h (length-replicate n zero32) (length-replicate n zero32) in
+        filled sofar is out (addPoints set total (silent n) l) (sampleOf resp r n 0 ps) (sampleOf resp r n 1 ps) (delayed 0 zero32 ps) (delayed 1 zero32 ps)
+        (P .left-long) (P .right-long) (λ i q. P .left i q ∙ from-zero 0 i ps q) (λ i q. P .right i q ∙ from-zero 1 i ps q) (P .delay-left) (P .delay-right)
+      where
+        from-zero : (e i : ℕ) (ps : List Share) → i < n → sums (tapOf resp r n e i) (getD (replicate n zero32) i nan) ps ≡ sampleOf resp r n e ps i
+        from-zero e i ps q = unfold sampleOf in ap (λ (a : Float). sums (tapOf resp r n e i) a ps) (getD-replicate n i zero32 nan q)

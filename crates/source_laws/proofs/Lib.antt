@@ -11,3 +11,4 @@ pub mod Ears
 pub mod Delays
 pub mod Points
 pub mod Blend
+pub mod Interpolate
