@@ -12,3 +12,5 @@ pub mod Delays
 pub mod Points
 pub mod Blend
 pub mod Interpolate
+pub mod Rows
+pub mod Same
