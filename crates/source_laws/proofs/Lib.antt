@@ -4,6 +4,7 @@ pub mod Insert
 pub mod Linked
 pub mod Built
 pub mod Find
+pub mod Bare
 pub mod Caps
 pub mod Steps
 pub mod Table
