@@ -11,7 +11,12 @@ use Rattle.points.specs.Points.{pointAt, Finite}
 use Rattle.kdtree.specs.Tree.{Tree, subtree}
 use Rattle.interpolate.specs.Blend.{neighborsOf}
 use Rattle.lookup.specs.Build.{Links, linked, buildOf, boxOf, lookupOf}
-use Rattle.lookup.specs.Lookup.{clampedBy}
+use Rattle.lookup.specs.declared.Located.{Located}
+use Rattle.lookup.specs.declared.Located.the-variants.{At}
+use Rattle.lookup.specs.Lookup.{clampedBy, locateOf, unless, findOf, findMutOf, movedAs, movedBy, pointIn, putPoint}
+use Rattle.limits.specs.declared.Verdict.{Verdict}
+use Rattle.limits.specs.declared.Verdict.the-variants.{Fine}
+use Rattle.limits.specs.Refusals.{verdictOf, findLines}
 use Rattle.lookup.proofs.Links.{linked-left, linked-right}
 use Rattle.neighbors.specs.Neighbors.{Tabled, tableOf}
 use Rattle.weights.specs.Weights.{Measured}
@@ -24,7 +29,7 @@ use Rattle.source.specs.Interpolate.{interpolate, «extract_filter», «get_fil
 use Rattle.source.specs.Reader as reader
 use Rattle.source.specs.Reader.{Sofar, opened, openedBy, filledOr, filterAt, filter, nointerpAt, «filter_nointerp»}
 use Rattle.source_laws.specs.Drawn.{boxed, ported, hrtfOf, enteredAll, heard}
-use Rattle.source_laws.specs.Same.{Set, Loaded, hrtf, look, blend, plain, SameAsSource}
+use Rattle.source_laws.specs.Same.{Set, Loaded, hrtf, sizes, lengths, look, blend, plain, SameAsSource}
 use Rattle.source_laws.proofs.Linked.{Holds, drawn-is}
 use Rattle.source_laws.proofs.Built.{measuredTo, root-same, boxBy, bounds-same, box-same, SixSame, six-same, new-same}
 use Rattle.source_laws.proofs.Find.{Finds, finds, clamp-same}
@@ -77,6 +82,15 @@ module _ (n r t : ℕ) (xs : List Float) (left right near : List ℕ) (resp dela
       ap (λ (o : Option ℕ). record { answer = o; coordinate = «normalize_radius» (measuredTo xs (suc n)) q }) (found q .in-source)
       ∙ ap (λ (p : Point3). record { answer = Some (found q .number); coordinate = p }) (clamp-same xs (suc n) q)
 
+  answers : (q : Point3) → verdictOf (findLines (sizes s) (lengths s) q) ≡ Fine → findOf (look s) (sizes s) xs left right q ≡ At (found q .number)
+  unfolding findOf unless
+  answers q e = ap (λ (v : Verdict). unless v (locateOf (look s) (suc n) xs left right q)) e ∙ found q .in-port
+
+  moved : (l : List Float) → verdictOf (findLines (sizes s) (lengths s) (pointIn l)) ≡ Fine
+      → findMutOf (look s) (sizes s) xs left right l ≡ movedAs (At (found (pointIn l) .number)) (putPoint l (clampedBy (look s) (pointIn l)))
+  unfolding findMutOf movedBy
+  moved l e = ap (λ (r : Located). movedBy r (look s) l) (answers (pointIn l) e)
+
   plainly : (k : ℕ) → k < suc n → (out : reader.Filter) → filledOr built out («extract_filter» (hrtf s) k t r) ≡ heard (plain s out k)
   plainly k h out = extract-same (suc n) r t xs resp delays rate (L .most) (L .positions) (L .ears) (L .taps) built refl out k h
 
@@ -121,6 +135,8 @@ module _ (n r t : ℕ) (xs : List Float) (left right near : List ℕ) (resp dela
         below = λ q. found q .below;
         port-finds = λ q. found q .in-port;
         source-finds = λ q. found q .in-source;
+        port-answers = answers;
+        port-moves = moved;
         source-moves = moves;
         filters = filters;
         filters-plain = filters-plain;

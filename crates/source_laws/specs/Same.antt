@@ -12,11 +12,15 @@ use lib.Ieee.{Float}
 use Rattle.points.specs.declared.Point3.{Point3}
 use Rattle.points.specs.Points.{pointAt, Finite}
 use Rattle.kdtree.specs.Tree.{subtree}
+use Rattle.limits.specs.declared.Sizes.{Sizes}
+use Rattle.limits.specs.declared.TreeLengths.{TreeLengths}
+use Rattle.limits.specs.declared.Verdict.the-variants.{Fine}
 use Rattle.limits.specs.Allowed.{angleStepOk}
+use Rattle.limits.specs.Refusals.{verdictOf, findLines}
 use Rattle.lookup.specs.declared.Lookup.{Lookup}
 use Rattle.lookup.specs.declared.Located.the-variants.{At}
 use Rattle.lookup.specs.Build.{Links, lookupOf, buildOf}
-use Rattle.lookup.specs.Lookup.{clampedBy, locateOf}
+use Rattle.lookup.specs.Lookup.{clampedBy, locateOf, treeLengths, findOf, findMutOf, movedAs, pointIn, putPoint}
 use Rattle.neighbors.specs.Neighbors.{tableOf}
 use Rattle.interpolate.specs.Blend.{neighborsOf, Filter, extractOf, interpolateOf}
 use Rattle.source.specs.Rust.{Option, Some}
@@ -63,6 +67,13 @@ pub record Loaded (s : Set) : Type 0 where
 abbrev pub hrtf : Set → Hrtf
 hrtf s = hrtfOf (s .m) (s .r) (s .n) (s .cartesian) (s .responses) (s .delays) (s .rate)
 
+-- the sizes and the lengths that a call checks
+abbrev pub sizes : Set → Sizes
+sizes s = record { m = s .m; c = 3; r = s .r; n = s .n }
+
+abbrev pub lengths : Set → TreeLengths
+lengths s = treeLengths (s .cartesian) (s .left) (s .right)
+
 -- what the port looks up by
 abbrev pub look : Set → Lookup
 look s = lookupOf (s .cartesian) (s .m)
@@ -97,12 +108,15 @@ pub record SameAsSource (s : Set) : Type 0 where
   pub has-row : (k : ℕ) → k < s .m → get (sofar .neighborhood) k ≡ Some (row k)
   pub entries : (k : ℕ) → k < s .m → neighborsOf (s .neighbours) k ≡ enteredAll (row k)
 
-  -- the radius clamp, find and find_mut, for any query; the port never refuses 9
+  -- the radius clamp and the number found, for any query: the port never refuses 9; and what find and find_mut answer where their checks pass
   pub clamp : (q : Point3) → «normalize_radius» (sofar .lookup) q ≡ clampedBy (look s) q
   pub number : Point3 → ℕ
   pub below : (q : Point3) → number q < s .m
   pub port-finds : (q : Point3) → locateOf (look s) (s .m) (s .cartesian) (s .left) (s .right) q ≡ At (number q)
   pub source-finds : (q : Point3) → find (sofar .lookup) q ≡ Some (number q)
+  pub port-answers : (q : Point3) → verdictOf (findLines (sizes s) (lengths s) q) ≡ Fine → findOf (look s) (sizes s) (s .cartesian) (s .left) (s .right) q ≡ At (number q)
+  pub port-moves : (l : List Float) → verdictOf (findLines (sizes s) (lengths s) (pointIn l)) ≡ Fine
+      → findMutOf (look s) (sizes s) (s .cartesian) (s .left) (s .right) l ≡ movedAs (At (number (pointIn l))) (putPoint l (clampedBy (look s) (pointIn l)))
   pub source-moves : (q : Point3) → «find_mut» (sofar .lookup) q ≡ record { answer = Some (number q); coordinate = clampedBy (look s) q }
 
   -- the filters: samples of both outputs, and both delays in seconds
