@@ -24,12 +24,13 @@ pub record Sofar : Type 0 where
   pub neighborhood : List Neighbors
 
 -- OpenOptions::open_data, from `Lookup::new` on: what it makes of positions that are Cartesian
+unfoldable pub openedBy : Angles → Hrtf → Float → Float → Option Lookup → Option Sofar
+openedBy platform hrtf «neighbor_angle_step» «neighbor_radius_step» None = None
+openedBy platform hrtf «neighbor_angle_step» «neighbor_radius_step» (Some lookup) =
+    Some (record { hrtf = hrtf; lookup = lookup; neighborhood = newNeighborhood platform hrtf lookup «neighbor_angle_step» «neighbor_radius_step» })
+
 unfoldable pub opened : Angles → Hrtf → Float → Float → Option Sofar
-opened platform hrtf «neighbor_angle_step» «neighbor_radius_step» = go (newLookup platform hrtf)
-  where
-    go : Option Lookup → Option Sofar
-    go None = None
-    go (Some lookup) = Some (record { hrtf = hrtf; lookup = lookup; neighborhood = newNeighborhood platform hrtf lookup «neighbor_angle_step» «neighbor_radius_step» })
+opened platform hrtf «neighbor_angle_step» «neighbor_radius_step» = openedBy platform hrtf «neighbor_angle_step» «neighbor_radius_step» (newLookup platform hrtf)
 
 -- Sofar::fill_filter: one ear, copied up to the shorter length and +0 from there on; and the whole
 unfoldable pub fillEar : List Float → List Float → List Float

@@ -41,7 +41,7 @@ use Rattle.source_laws.proofs.Built.{place, measuredTo, root-same, boxB
 -- ---- nearest
 
 -- the source names the number of the place that the port's search found
-abbrev Names : (ℕ → ℕ) → Option ℕ → Searched → Type 0
+abbrev pub Names : (ℕ → ℕ) → Option ℕ → Searched → Type 0
 Names number (Some k) (Found s) = number (s .place) ≡ k
 Names number (Some k) Stopped = ⊥
 Names number None w = ⊥

@@ -4,6 +4,14 @@ pub mod Insert
 pub mod Linked
 pub mod Built
 pub mod Find
+pub mod Bare
 pub mod Caps
 pub mod Steps
 pub mod Table
+pub mod Ears
+pub mod Delays
+pub mod Points
+pub mod Blend
+pub mod Interpolate
+pub mod Rows
+pub mod Same

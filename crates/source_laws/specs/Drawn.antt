@@ -11,6 +11,10 @@ use Rattle.angles.specs.Says.{sinOf, cosOf, atan2Of}
 use Rattle.source.specs.Rust.{Option, None, Some, Angles}
 use Rattle.source.specs.Lookup.{Hrtf}
 use Rattle.source.specs.Neighbors.{Neighbors}
+use Rattle.source.specs.Reader as reader
+use Rattle.delays.specs.Delays.{answerOf}
+use Rattle.interpolate.specs.declared.Neighbors as port
+use Rattle.interpolate.specs.Blend.{Filter}
 use Rattle.source.specs.Kdtree as source
 use Rattle.source.specs.Kdtree.{Link, KdNode, kdNode, none, some}
 
@@ -54,3 +58,18 @@ sixth s (suc (suc zero)) = s .«theta_plus»
 sixth s (suc (suc (suc zero))) = s .«theta_minus»
 sixth s (suc (suc (suc (suc zero)))) = s .«radius_plus»
 sixth s (suc (suc (suc (suc (suc d))))) = s .«radius_minus»
+
+-- the six entries of a row that stand for the source's six
+abbrev pub enteredAll : Neighbors → port.Neighbors
+enteredAll s = record {
+  «phi_plus» = entered (s .«phi_plus»);
+  «phi_minus» = entered (s .«phi_minus»);
+  «theta_plus» = entered (s .«theta_plus»);
+  «theta_minus» = entered (s .«theta_minus»);
+  «radius_plus» = entered (s .«radius_plus»);
+  «radius_minus» = entered (s .«radius_minus»);
+}
+
+-- what a filter query leaves, as the source's `Filter`: both outputs, and the two delays in seconds (+0 where it is refused)
+abbrev pub heard : Filter → reader.Filter
+heard f = record { left = f .left; right = f .right; ldelay = answerOf (f .answer) .left .0; rdelay = answerOf (f .answer) .right .0 }

@@ -1,1 +1,3 @@
 pub mod Drawn
+pub mod Bare
+pub mod Same

@@ -49,7 +49,7 @@ record Ended (m : Numbered) (held rest : List Numbered) (t : Bare) : Type 0 wher
   accepted : Each Accepted (answers rest t)
 
 -- room for one more, where there is room for n in all
-room-now : (a : Lists) (c n : ℕ) → RoomFor a n → c < n → whole.Room a c
+pub room-now : (a : Lists) (c n : ℕ) → RoomFor a n → c < n → whole.Room a c
 room-now a c n r h =
     let k = r .most in
     let p = r .positions in
@@ -58,7 +58,7 @@ room-now a c n r h =
     let s = r .numbers in
     record { most = omega arith; positions = omega arith; left = omega arith; right = omega arith; numbers = omega arith }
 
-room-kept : (a a' : Lists) (n n' : ℕ) → SameLengths a a' → n ≡ n' → RoomFor a n → RoomFor a' n'
+pub room-kept : (a a' : Lists) (n n' : ℕ) → SameLengths a a' → n ≡ n' → RoomFor a n → RoomFor a' n'
 room-kept a a' n n' s e r =
     let k = r .most in
     let p = r .positions in
@@ -75,10 +75,10 @@ same-lengths : (a b c : Lists) → SameLengths a b → SameLengths b c → SameL
 same-lengths a b c s r = record { positions = r .positions ∙ s .positions; left = r .left ∙ s .left; right = r .right ∙ s .right; numbers = r .numbers ∙ s .numbers }
 
 -- the bare tree after an insert that went through
-abbrev afterwards : (t : Bare) (x m : Numbered) (ms : List Numbered) → Next t x m ms → Bare
+abbrev pub afterwards : (t : Bare) (x m : Numbered) (ms : List Numbered) → Next t x m ms → Bare
 afterwards t x m ms N = record { lists = N .lists; count = suc (t .count); bounds = N .bounds }
 
-keeps : (t : Bare) (x m : Numbered) (ms : List Numbered) (N : Next t x m ms) → kept (insertInto t x) t ≡ afterwards t x m ms N
+pub keeps : (t : Bare) (x m : Numbered) (ms : List Numbered) (N : Next t x m ms) → kept (insertInto t x) t ≡ afterwards t x m ms N
 unfolding kept
 keeps t x m ms N = ap (λ (s : Stored). kept s t) (N .is)
 

@@ -20,7 +20,7 @@ use Rattle.kdtree.specs.Insert.{Lists, storedAs, treeOf, sideSlot, slotIn, writ
 use Rattle.kdtree.specs.Unpruned.{Item, order, size}
 use Rattle.kdtree.proofs.Nodes.{All}
 use Rattle.kdtree.proofs.Whole as whole
-use Rattle.walks.specs.Demand3.{Numbered, Put, here, there, Reordered, none, more, Bare, insertInto, standing, rootOf}
+use Rattle.walks.specs.Demand3.{Numbered, Put, here, there, Reordered, none, more, Bare, insertInto, treeIn, standing, rootOf}
 use Rattle.walks.proofs.Pruned.{Points, Clean}
 use Rattle.walks.proofs.Lists.{put-after, put-before, put-map, map-same, reordered-snoc, each-to}
 use Rattle.walks.proofs.First.{all-order}
@@ -259,6 +259,11 @@ pub record Next (t : Bare) (x : Numbered) (m : Numbered) (ms : List Numbered) : 
   pub is : insertInto t x ≡ storedAs (Done bounds) lists
   pub same : SameLengths (t .lists) lists
   pub filled : Filled m ms (record { lists = lists; count = suc (t .count); bounds = bounds })
+  -- what stands where, the box and the tree, of a first insert and of a later one
+  pub old : (i : ℕ) → i < t .count → standing lists i ≡ standing (t .lists) i
+  pub own : standing lists (t .count) ≡ x
+  pub starts : t .count ≡ 0 → (bounds ≡ boxAt (x .point)) × (filled .tree ≡ node (t .count) (x .point) gone gone)
+  pub grows : 0 < t .count → (bounds ≡ grown (t .bounds) (x .point)) × (filled .tree ≡ graft (t .count) (x .point) (treeIn t) 0)
 
 number-eq : (u v : Numbered) → u .number ≡ v .number → u .point ≡ v .point → u ≡ v
 number-eq u v a b = λ i. record { number = a i; point = b i }
@@ -289,6 +294,10 @@ first t x h z =
         root = ap (λ (i : ℕ). standing (written a c p (x .number)) i) (sym z) ∙ at-c;
         holds = λ q. alone q (leftFirst q p 0) at-c;
       };
+      old = λ i l. absurd (omega arith);
+      own = at-c;
+      starts = λ k. (refl, refl);
+      grows = λ k. absurd (omega arith);
     }
   where
     alone : (q : Point3) (f : Bool) → standing (written (t .lists) (t .count) (x .point) (x .number)) (t .count) ≡ x
@@ -334,7 +343,7 @@ module _ (t : Bare) (x m : Numbered) (ms : List Numbered) (h : whole.Room (t .li
       (subst (λ (y : Numbered). Put y (map f' (order q (F .tree) 0)) (comesTo a' q (graft c p (F .tree) 0))) (w .own)
       (put-map f' (order-graft q c p (F .tree) 0 clean))))
 
-  next-filled : (a' : Lists) → Wrote a' → Filled m (ms ++ (x ∷ [])) (record { lists = a'; count = suc c; bounds = grown (t .bounds) p })
+  unfoldable next-filled : (a' : Lists) → Wrote a' → Filled m (ms ++ (x ∷ [])) (record { lists = a'; count = suc c; bounds = grown (t .bounds) p })
   next-filled a' w = record {
     tree = graft c p (F .tree) 0;
     some = omega arith;
@@ -375,11 +384,14 @@ module _ (t : Bare) (x m : Numbered) (ms : List Numbered) (h : whole.Room (t .li
 
   -- EACH INSERT GOES THROUGH: no bad link is met, and the lists draw the tree with the new node
   pub next : Next t x m (ms ++ (x ∷ []))
-  unfolding linkedLeft linkedRight
+  unfolding linkedLeft linkedRight next-filled
   next = go (slotIn p (F .tree) 0) refl (slot-some p (F .tree) 0 clean (root-node (a .left) (a .right) (a .positions) c (F .tree) 0 (F .rep)))
     where
       nz : c ≡ 0 → ⊥
       nz e = let z = F .some in omega arith
+
+      drawn : graft c p (F .tree) 0 ≡ graft c p (treeIn t) 0
+      drawn = ap (λ (d : Tree). graft c p d 0) (sym (rep-at (a .left) (a .right) (a .positions) c (F .small) (F .tree) 0 c (omega arith) (F .rep)))
 
       below : (s : ℕ) → Owner (slotIn p (F .tree) 0) s → s < c
       below s o = root-below (a .left) (a .right) (a .positions) c (F .tree) 0 s (F .rep) (owner-in p (F .tree) 0 s o)
@@ -398,6 +410,10 @@ module _ (t : Bare) (x m : Numbered) (ms : List Numbered) (h : whole.Room (t .li
               old = written-old (linkedLeft a s c) refl refl;
               own = written-own (linkedLeft a s c) refl refl;
             });
+            old = written-old (linkedLeft a s c) refl refl;
+            own = written-own (linkedLeft a s c) refl refl;
+            starts = λ k. absurd (nz k);
+            grows = λ k. (refl, drawn);
           }
       go (Right s) e u =
           let l = below s (subst (λ (k : Slot). Owner k s) (sym e) refl) in
@@ -412,5 +428,9 @@ module _ (t : Bare) (x m : Numbered) (ms : List Numbered) (h : whole.Room (t .li
               old = written-old (linkedRight a s c) refl refl;
               own = written-own (linkedRight a s c) refl refl;
             });
+            old = written-old (linkedRight a s c) refl refl;
+            own = written-own (linkedRight a s c) refl refl;
+            starts = λ k. absurd (nz k);
+            grows = λ k. (refl, drawn);
           }
       go None e u = absurd u

@@ -1,0 +1,197 @@
+-- The points of a blend and the sum of their weights: the source's are the port's. Assumes nothing.
+use mathlib.Core.Path.{_≡_, refl, sym, ap, _∙_, subst}
+use mathlib.Core.Bool.{Bool, true, false, cond, _&&_, Bool·beq}
+use mathlib.Core.List.{List, [], _∷_, _++_, map}
+use Prim.Native.Nat.{ℕ, zero, suc, _+_, _-_, _*_, _<_, _≤_}
+use native.Mathlib.Omega.{arith}
+use lib.Dec.{T, eqb, leb, ltb}
+use lib.IntN.{ℤ}
+use lib.ListN.{length, take}
+use lib.Ieee.{Float, nan, inf, fin, binary32, up, down, add, sum, div, neg, lt, round, ofBits}
+use borrow.Author.Tests.{ne-eqb, ltb-false, le-ltb}
+use Rattle.floats.specs.Floats.{zero32, one32}
+use Rattle.lists.specs.Each.{Each}
+use Rattle.floats.proofs.Sign.{nonneg}
+use Rattle.floats.proofs.Cross.{is-true}
+use Rattle.floats.proofs.Preorder.{lt-trans-f}
+use Rattle.points.specs.declared.Point3.{Point3}
+use Rattle.points.specs.Points.{pointAt, distSq}
+use Rattle.root.specs.Root.{rootOf}
+use Rattle.mix.specs.declared.Share.{Share}
+use Rattle.mix.proofs.Laws.{append-nil}
+use Rattle.interpolate.specs.declared.Closest.{Closest}
+use Rattle.interpolate.specs.declared.Neighbors as port
+use Rattle.interpolate.specs.Blend as blend
+use Rattle.interpolate.specs.Blend.{tiny32, largest32, distanceOf, nothing, shareOf, taken, pairOf, pointsOf, totalFrom, totalOf}
+use Rattle.source.specs.Rust.{Option, None, Some, at, MAX}
+use Rattle.source.specs.Lookup.{triplet}
+use Rattle.source.specs.Neighbors.{Neighbors}
+use Rattle.source.specs.Interpolate as source
+use Rattle.source.specs.Interpolate.{«1e-10», Weighted, Closer, distance, closer, pushed, «add_closer_neighbor», sumFrom, «weight_sum»}
+use Rattle.source_laws.specs.Drawn.{entered, hrtfOf}
+use Rattle.source_laws.proofs.Built.{point-here, inside}
+use Rattle.source_laws.proofs.Steps.{InSet}
+
+-- ---- the list of points
+
+abbrev pub shared : Weighted → Share
+shared w = record { number = w .idx; weight = w .weight }
+
+abbrev pub listed : List Weighted → List Share
+listed l = map shared l
+
+listed-more : (l : List Weighted) (w : Weighted) → listed (l ++ (w ∷ [])) ≡ listed l ++ (shared w ∷ [])
+listed-more [] w = refl
+listed-more (x ∷ l) w = ap (λ (z : List Share). shared x ∷ z) (listed-more l w)
+
+abbrev weighed : ℕ → Float → Weighted
+weighed k x = record { idx = k; weight = div binary32 one32 x }
+
+if-listed : (g : Bool) (l : List Weighted) (w : Weighted) → listed (cond g (l ++ (w ∷ [])) l) ≡ listed l ++ cond g (shared w ∷ []) []
+if-listed true l w = listed-more l w
+if-listed false l w = sym (append-nil (listed l))
+
+not-largest : lt largest32 largest32 ≡ false
+unfolding lt ofBits
+not-largest = refl
+
+none-taken : (c : Closest) → c .dist ≡ largest32 → taken c ≡ []
+unfolding taken
+none-taken c e =
+    ap (λ (x : Float). cond (lt x largest32 && lt tiny32 x) (shareOf (c .number) (c .dist) ∷ []) []) e
+    ∙ ap (λ (b : Bool). cond (b && lt tiny32 largest32) (shareOf (c .number) (c .dist) ∷ []) []) not-largest
+
+one-taken : (c : Closest) (k : ℕ) → k ≡ c .number → lt (c .dist) largest32 ≡ true → taken c ≡ cond (lt tiny32 (c .dist)) (shareOf k (c .dist) ∷ []) []
+unfolding taken
+one-taken c k en h =
+    ap (λ (b : Bool). cond (b && lt tiny32 (c .dist)) (shareOf (c .number) (c .dist) ∷ []) []) h
+    ∙ ap (λ (j : ℕ). cond (lt tiny32 (c .dist)) (shareOf j (c .dist) ∷ []) []) (sym en)
+
+-- ---- the distance
+
+pub distance-same : (xs : List Float) (q : Point3) (k : ℕ) → distance (pointAt xs k) q ≡ distanceOf xs q k
+unfolding distance distanceOf distSq at
+distance-same xs q k = refl
+
+module _ (xs : List Float) (m : ℕ) (small : m ≤ 16384) (long : 3 * m ≤ length xs) (q : Point3) where
+  abbrev sp : List Float
+  sp = take (3 * m) xs
+
+  abbrev d : ℕ → Float
+  d = distanceOf xs q
+
+  pub dist-here : (k : ℕ) → k < m → distance (triplet sp (k * 3)) q ≡ d k
+  dist-here k h = ap (λ (p : Point3). distance p q) (point-here xs m k h) ∙ distance-same xs q k
+
+  -- ---- the closer of a pair
+
+  -- nothing yet, or a distance below the largest f32
+  abbrev Open : Option ℕ → Float → Type 0
+  Open None x = x ≡ largest32
+  Open (Some k) x = lt x largest32 ≡ true
+
+  record Twin (b : Closer) (c : Closest) : Type 0 where
+    number : entered (b .«best_idx») ≡ c .number
+    dist : b .«best_dist» ≡ c .dist
+    below : Open (b .«best_idx») (c .dist)
+
+  nearer : (o : Option ℕ) (x y : Float) → lt x y ≡ true → Open o y → lt x largest32 ≡ true
+  nearer None x y h e = subst (λ (z : Float). lt x z ≡ true) e h
+  nearer (Some k) x y h e = is-true (lt x largest32) (lt-trans-f x y largest32 (subst T (sym h) tt) (subst T (sym e) tt))
+
+  wins : (k : ℕ) (b : Closer) (c : Closest) → Twin b c → k < m
+      → Twin (cond (lt (d k) (b .«best_dist»)) (record { «best_idx» = Some k; «best_dist» = d k }) b) (cond (lt (d k) (c .dist)) (record { number = k; dist = d k }) c)
+  wins k b c t h = subst (λ (x : Float). Twin (cond (lt (d k) x) won b) (cond (lt (d k) (c .dist)) (record { number = k; dist = d k }) c)) (sym (t .dist)) (go (lt (d k) (c .dist)) refl)
+    where
+      won : Closer
+      won = record { «best_idx» = Some k; «best_dist» = d k }
+
+      go : (g : Bool) → lt (d k) (c .dist) ≡ g → Twin (cond g won b) (cond g (record { number = k; dist = d k }) c)
+      go true e = record { number = unfold entered in refl; dist = refl; below = nearer (b .«best_idx») (d k) (c .dist) e (t .below) }
+      go false e = t
+
+  closer-same : (o : Option ℕ) (b : Closer) (c : Closest) → InSet m o → Twin b c → Twin (closer q sp 3 b o) (blend.closer d c (entered o))
+  unfolding closer blend.closer entered
+  closer-same None b c h t = t
+  closer-same (Some k) b c h t =
+      rw (inside xs m k long h) (rw (dist-here k h) (rw (ne-eqb k 65535 (λ e. omega arith)) (wins k b c t h)))
+
+  -- what is pushed
+  pushed-same : (l : List Weighted) (o : Option ℕ) (x : Float) (c : Closest) → entered o ≡ c .number → x ≡ c .dist → Open o (c .dist)
+      → listed (pushed l o x) ≡ listed l ++ taken c
+  unfolding pushed entered
+  pushed-same l None x c en ex h = sym (append-nil (listed l)) ∙ ap (λ (z : List Share). listed l ++ z) (sym (none-taken c h))
+  pushed-same l (Some k) x c en ex h =
+      ap (λ (y : Float). listed (cond (lt «1e-10» y) (l ++ (weighed k y ∷ [])) l)) ex
+      ∙ if-listed (lt tiny32 (c .dist)) l (weighed k (c .dist))
+      ∙ ap (λ (z : List Share). listed l ++ z) (sym (one-taken c k en h))
+
+  pub pair-same : (l : List Weighted) (a b : Option ℕ) → InSet m a → InSet m b → listed («add_closer_neighbor» l a b q sp 3) ≡ listed l ++ pairOf d (entered a) (entered b)
+  unfolding «add_closer_neighbor» pairOf
+  pair-same l a b ha hb =
+      let none : Closer = record { «best_idx» = None; «best_dist» = MAX } in
+      let t = closer-same b (closer q sp 3 none a) (blend.closer d nothing (entered a)) hb (closer-same a none nothing ha (record { number = unfold entered in refl; dist = refl; below = refl })) in
+      let z = closer q sp 3 (closer q sp 3 none a) b in
+      pushed-same l (z .«best_idx») (z .«best_dist») (blend.closer d (blend.closer d nothing (entered a)) (entered b)) (t .number) (t .dist) (t .below)
+
+-- ---- the points are measurements of the set
+
+module _ (m : ℕ) where
+  abbrev pub AllIn : List Weighted → Type 0
+  AllIn l = Each (λ (w : Weighted). w .idx < m) l
+
+  all-more : (l : List Weighted) (w : Weighted) → AllIn l → w .idx < m → AllIn (l ++ (w ∷ []))
+  all-more [] w h g = (g, tt)
+  all-more (x ∷ l) w h g = (h .0, all-more l w (h .1) g)
+
+  pushed-in : (l : List Weighted) (o : Option ℕ) (x : Float) → AllIn l → InSet m o → AllIn (pushed l o x)
+  unfolding pushed
+  pushed-in l None x h g = h
+  pushed-in l (Some k) x h g = go (lt «1e-10» x)
+    where
+      go : (b : Bool) → AllIn (cond b (l ++ (weighed k x ∷ [])) l)
+      go true = all-more l (weighed k x) h g
+      go false = h
+
+  closer-in : (q : Point3) (sp : List Float) (b : Closer) (o : Option ℕ) → InSet m (b .«best_idx») → InSet m o → InSet m (closer q sp 3 b o .«best_idx»)
+  unfolding closer
+  closer-in q sp b None h g = h
+  closer-in q sp b (Some k) h g = go (leb (length sp) (k * 3 + 2)) (lt (distance (triplet sp (k * 3)) q) (b .«best_dist»))
+    where
+      go : (u v : Bool) → InSet m (cond u b (cond v (record { «best_idx» = Some k; «best_dist» = distance (triplet sp (k * 3)) q }) b) .«best_idx»)
+      go true v = h
+      go false true = g
+      go false false = h
+
+  pub added-in : (l : List Weighted) (a b : Option ℕ) (q : Point3) (sp : List Float) → AllIn l → InSet m a → InSet m b → AllIn («add_closer_neighbor» l a b q sp 3)
+  unfolding «add_closer_neighbor»
+  added-in l a b q sp h ha hb =
+      let none : Closer = record { «best_idx» = None; «best_dist» = MAX } in
+      let z = closer q sp 3 (closer q sp 3 none a) b in
+      pushed-in l (z .«best_idx») (z .«best_dist») h (closer-in q sp (closer q sp 3 none a) b (closer-in q sp none a tt ha) hb)
+
+-- ---- the sum of the weights
+
+-- a first weight that is not -0: from -0, as the source adds, and from +0 the sum is the same
+sum-zero : (a b c : ℕ) → a ≡ 0 → sum binary32 true a false b c ≡ sum binary32 false a false b c
+unfolding sum
+sum-zero a b c e = go (ltb a b) refl
+  where
+    go : (g : Bool) → ltb a b ≡ g → cond g (round binary32 false (b - a) c) (round binary32 (true && ltb b a) (a - b) c) ≡ round binary32 false (a + b) c
+    go true h = let z : b - a ≡ a + b = omega arith in ap (λ (k : ℕ). round binary32 false k c) z
+    go false h =
+        let l = ltb-false a b h in
+        let z : a - b ≡ a + b = omega arith in
+        ap (λ (g : Bool). round binary32 g (a - b) c) (le-ltb b a (omega arith)) ∙ ap (λ (k : ℕ). round binary32 false k c) z
+
+pub minus-zero : (w : Float) → T (nonneg w) → add binary32 (neg zero32) w ≡ add binary32 zero32 w
+unfolding add neg
+minus-zero nan h = absurd h
+minus-zero (inf s) h = refl
+minus-zero (fin true n e) h = absurd h
+minus-zero (fin false n e) h = sum-zero (0 * 1 * down e) (n * up e * 1) (1 * down e) (omega arith)
+
+pub sum-same : (s : Float) (l : List Weighted) → sumFrom s l ≡ totalFrom s (listed l)
+unfolding sumFrom totalFrom
+sum-same s [] = refl
+sum-same s (w ∷ l) = sum-same (add binary32 s (w .weight)) l

@@ -1,0 +1,169 @@
+-- THE THEOREM: what a loaded set answers is what the source answers (specs/Same.antt). Assumes nothing.
+use mathlib.Core.Path.{_≡_, refl, sym, ap, _∙_, subst}
+use mathlib.Core.List.{List}
+use Prim.Native.Nat.{ℕ, zero, suc, _+_, _*_, _<_, _≤_}
+use native.Mathlib.Omega.{arith}
+use lib.ListN.{length, getD, drop, List·getD-append}
+use lib.Ieee.{Float}
+use Rattle.lists.specs.Over.{over, upto}
+use Rattle.points.specs.declared.Point3.{Point3}
+use Rattle.points.specs.Points.{pointAt, Finite}
+use Rattle.kdtree.specs.Tree.{Tree, subtree}
+use Rattle.interpolate.specs.Blend.{neighborsOf}
+use Rattle.lookup.specs.Build.{Links, linked, buildOf, boxOf, lookupOf}
+use Rattle.lookup.specs.declared.Located.{Located}
+use Rattle.lookup.specs.declared.Located.the-variants.{At}
+use Rattle.lookup.specs.Lookup.{clampedBy, locateOf, unless, findOf, findMutOf, movedAs, movedBy, pointIn, putPoint}
+use Rattle.limits.specs.declared.Verdict.{Verdict}
+use Rattle.limits.specs.declared.Verdict.the-variants.{Fine}
+use Rattle.limits.specs.Refusals.{verdictOf, findLines}
+use Rattle.lookup.proofs.Links.{linked-left, linked-right}
+use Rattle.neighbors.specs.Neighbors.{Tabled, tableOf}
+use Rattle.weights.specs.Weights.{Measured}
+use Rattle.source.specs.Rust.{Option, None, Some}
+use Rattle.source.specs.Kdtree.{nearest}
+use Rattle.source.specs.Lookup as looked
+use Rattle.source.specs.Lookup.{«find_mut», find, «normalize_radius»}
+use Rattle.source.specs.Neighbors.{Neighbors, newNeighborhood, get}
+use Rattle.source.specs.Interpolate.{interpolate, «extract_filter», «get_filter_nointerp»}
+use Rattle.source.specs.Reader as reader
+use Rattle.source.specs.Reader.{Sofar, opened, openedBy, filledOr, filterAt, filter, nointerpAt, «filter_nointerp»}
+use Rattle.source_laws.specs.Drawn.{boxed, ported, hrtfOf, enteredAll, heard}
+use Rattle.source_laws.specs.Same.{Set, Loaded, hrtf, sizes, lengths, look, blend, plain, SameAsSource}
+use Rattle.source_laws.proofs.Linked.{Holds, drawn-is}
+use Rattle.source_laws.proofs.Built.{measuredTo, root-same, boxBy, bounds-same, box-same, SixSame, six-same, new-same}
+use Rattle.source_laws.proofs.Find.{Finds, finds, clamp-same}
+use Rattle.source_laws.proofs.Table.{six, entryAt, table-same, neighborhood-same}
+use Rattle.source_laws.proofs.Blend.{extract-same}
+use Rattle.source_laws.proofs.Interpolate.{interpolate-same}
+use Rattle.source_laws.proofs.Rows.{row-same, row-in}
+
+over-same : (l d : List ℕ) (i : ℕ) → i < length l → getD (over l d) i 0 ≡ getD l i 0
+unfolding over
+over-same l d i h = List·getD-append l (drop (length l) d) 0 i h
+
+-- the set with m = suc n measurements
+module _ (n r t : ℕ) (xs : List Float) (left right near : List ℕ) (resp delays : List Float) (angle radius rate : Float)
+    (L : Loaded (record { m = suc n; r = r; n = t; cartesian = xs; left = left; right = right; neighbours = near; responses = resp; delays = delays; angle = angle; radius = radius; rate = rate })) where
+  abbrev s : Set
+  s = record { m = suc n; r = r; n = t; cartesian = xs; left = left; right = right; neighbours = near; responses = resp; delays = delays; angle = angle; radius = radius; rate = rate }
+
+  holds : Holds xs n left right
+  unfolding buildOf
+  holds = record {
+    left-same = λ i h. ap (λ (l : List ℕ). getD l i 0) (L .left-links) ∙ over-same (linked xs (suc n) .left) (L .links-before .left) i (let z = linked-left xs (suc n) in omega arith);
+    right-same = λ i h. ap (λ (l : List ℕ). getD l i 0) (L .right-links) ∙ over-same (linked xs (suc n) .right) (L .links-before .right) i (let z = linked-right xs (suc n) in omega arith);
+  }
+
+  abbrev ours : ℕ → Neighbors
+  ours = six xs n (L .most) left right holds angle radius (L .angle-step)
+
+  abbrev built : Sofar
+  built = record { hrtf = hrtf s; lookup = measuredTo xs (suc n); neighborhood = newNeighborhood ported (hrtf s) (measuredTo xs (suc n)) angle radius }
+
+  opens : opened ported (hrtf s) angle radius ≡ Some built
+  unfolding opened openedBy
+  opens = ap (openedBy ported (hrtf s) angle radius) (new-same (suc n) r t xs resp delays rate (L .some) (L .positions))
+
+  entries : (k : ℕ) → k < suc n → neighborsOf near k ≡ enteredAll (ours k)
+  entries k h =
+      ap (λ (l : List ℕ). neighborsOf l k) (L .table ∙ ap (λ (x : Tabled). x .table) (table-same xs n (L .most) left right holds angle radius (L .angle-step) (L .table-before) (L .table-room)))
+      ∙ row-same xs n (L .most) left right holds angle radius (L .angle-step) (L .table-before) k h
+
+  rows : (k : ℕ) → k < suc n → get (built .neighborhood) k ≡ Some (ours k)
+  rows k h = neighborhood-same xs n (L .most) left right holds angle radius (L .angle-step) (L .positions) r t resp delays rate k h
+
+  found : (q : Point3) → Finds xs n left right q
+  found q = finds xs n (L .most) left right holds q
+
+  moves : (q : Point3) → «find_mut» (measuredTo xs (suc n)) q ≡ record { answer = Some (found q .number); coordinate = clampedBy (look s) q }
+  unfolding «find_mut» find
+  moves q =
+      ap (λ (o : Option ℕ). record { answer = o; coordinate = «normalize_radius» (measuredTo xs (suc n)) q }) (found q .in-source)
+      ∙ ap (λ (p : Point3). record { answer = Some (found q .number); coordinate = p }) (clamp-same xs (suc n) q)
+
+  answers : (q : Point3) → verdictOf (findLines (sizes s) (lengths s) q) ≡ Fine → findOf (look s) (sizes s) xs left right q ≡ At (found q .number)
+  unfolding findOf unless
+  answers q e = ap (λ (v : Verdict). unless v (locateOf (look s) (suc n) xs left right q)) e ∙ found q .in-port
+
+  moved : (l : List Float) → verdictOf (findLines (sizes s) (lengths s) (pointIn l)) ≡ Fine
+      → findMutOf (look s) (sizes s) xs left right l ≡ movedAs (At (found (pointIn l) .number)) (putPoint l (clampedBy (look s) (pointIn l)))
+  unfolding findMutOf movedBy
+  moved l e = ap (λ (r : Located). movedBy r (look s) l) (answers (pointIn l) e)
+
+  plainly : (k : ℕ) → k < suc n → (out : reader.Filter) → filledOr built out («extract_filter» (hrtf s) k t r) ≡ heard (plain s out k)
+  plainly k h out = extract-same (suc n) r t xs resp delays rate (L .most) (L .positions) (L .ears) (L .taps) built refl out k h
+
+  filters : (q : Point3) → Finite q → (out : reader.Filter) → filter built (q .x) (q .y) (q .z) out ≡ heard (blend s out q (found q .number))
+  unfolding filter filterAt
+  filters q f out =
+      let k = found q .number in
+      ap (filterAt built q out) (found q .in-source)
+      ∙ interpolate-same (suc n) r t xs resp delays rate (L .most) (L .positions) (L .ears) (L .taps) built refl out q k (found q .below) (record { points = L .finite; query = f })
+      (ours k) (row-in xs n (L .most) left right holds angle radius (L .angle-step) k) (built .neighborhood) near (rows k (found q .below)) (entries k (found q .below))
+
+  filters-plain : (q : Point3) (out : reader.Filter) → «filter_nointerp» built (q .x) (q .y) (q .z) out ≡ heard (plain s out (found q .number))
+  unfolding «filter_nointerp» nointerpAt «get_filter_nointerp»
+  filters-plain q out = ap (nointerpAt built out) (found q .in-source) ∙ plainly (found q .number) (found q .below) out
+
+  by-number : (k : ℕ) → k < suc n → (out : reader.Filter) → filledOr built out («get_filter_nointerp» (hrtf s) k) ≡ heard (plain s out k)
+  unfolding «get_filter_nointerp»
+  by-number k h out = plainly k h out
+
+  some-set : SameAsSource s
+  unfolding lookupOf boxOf
+  some-set =
+      let b = six-same xs (suc n) in
+      record {
+        sofar = built;
+        opens = opens;
+        tree = root-same xs n ∙ ap (λ (z : Tree). boxed (λ i. i) z 0) (sym (drawn-is xs n left right (L .most) holds));
+        box = boxBy xs n;
+        has-box = bounds-same xs n;
+        corners = box-same xs n;
+        phi-min = b .phi-least;
+        phi-max = b .phi-greatest;
+        theta-min = b .theta-least;
+        theta-max = b .theta-greatest;
+        radius-min = b .least;
+        radius-max = b .greatest;
+        row = ours;
+        has-row = rows;
+        entries = entries;
+        clamp = clamp-same xs (suc n);
+        number = λ q. found q .number;
+        below = λ q. found q .below;
+        port-finds = λ q. found q .in-port;
+        source-finds = λ q. found q .in-source;
+        port-answers = answers;
+        port-moves = moved;
+        source-moves = moves;
+        filters = filters;
+        filters-plain = filters-plain;
+        by-number = by-number;
+      }
+
+-- DEMAND 2: a loaded set answers what the source answers
+pub same : (s : Set) → Loaded s → SameAsSource s
+same s L = go (s .m) (s .r) (s .n) (s .cartesian) (s .left) (s .right) (s .neighbours) (s .responses) (s .delays) (s .angle) (s .radius) (s .rate) L
+  where
+    made : ℕ → ℕ → ℕ → List Float → List ℕ → List ℕ → List ℕ → List Float → List Float → Float → Float → Float → Set
+    made m r t xs left right near resp delays angle radius rate = record {
+      m = m;
+      r = r;
+      n = t;
+      cartesian = xs;
+      left = left;
+      right = right;
+      neighbours = near;
+      responses = resp;
+      delays = delays;
+      angle = angle;
+      radius = radius;
+      rate = rate;
+    }
+
+    go : (m r t : ℕ) (xs : List Float) (left right near : List ℕ) (resp delays : List Float) (angle radius rate : Float)
+        → Loaded (made m r t xs left right near resp delays angle radius rate) → SameAsSource (made m r t xs left right near resp delays angle radius rate)
+    go zero r t xs left right near resp delays angle radius rate L = let z = L .some in absurd (omega arith)
+    go (suc n) r t xs left right near resp delays angle radius rate L = some-set n r t xs left right near resp delays angle radius rate L
