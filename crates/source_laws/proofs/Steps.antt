@@ -3,7 +3,6 @@ use mathlib.Core.Path.{_≡_, refl, sym, ap, _∙_, subst}
 use mathlib.Core.Bool.{Bool, true, false, cond, _||_}
 use mathlib.Core.List.{List}
 use Prim.Native.Nat.{ℕ, zero, suc, _+_, _<_, _≤_}
-use native.Mathlib.Omega.{arith}
 use lib.Dec.{eqb}
 use lib.Ieee.{Float, binary32, add, sub, lt}
 use Rattle.floats.specs.Floats.{absOf}
@@ -12,9 +11,8 @@ use Rattle.coords.specs.declared.Spherical.{Spherical}
 use Rattle.coords.specs.Coords.{turnOf, alongOf, cartesianOf}
 use Rattle.lookup.specs.declared.Lookup.{Lookup}
 use Rattle.lookup.specs.declared.Located.{Located}
-use Rattle.lookup.specs.declared.Located.the-variants.{At, Refused}
+use Rattle.lookup.specs.declared.Located.the-variants.{At}
 use Rattle.lookup.specs.Build.{lookupOf}
-use Rattle.lookup.specs.Lookup.{locateOf}
 use Rattle.neighbors.specs.Neighbors.{after, tilted, distant, moved, leaves, unlessOwn, going}
 use Rattle.source.specs.Rust.{Option, None, Some, array}
 use Rattle.source.specs.Coords.{«spherical_to_cartesian»}
@@ -23,8 +21,8 @@ use Rattle.source.specs.Lookup.{find}
 use Rattle.source.specs.Neighbors.{otherThan, stepping}
 use Rattle.source_laws.specs.Drawn.{ported, entered}
 use Rattle.source_laws.proofs.Linked.{Holds}
-use Rattle.source_laws.proofs.Built.{measuredTo, SixSame, six-same}
-use Rattle.source_laws.proofs.Find.{Finds, finds}
+use Rattle.source_laws.proofs.Built.{measuredTo, six-same}
+use Rattle.source_laws.proofs.Find.{finds}
 
 -- absent, or one of the m measurements
 abbrev pub InSet : ℕ → Option ℕ → Type 0
@@ -102,8 +100,8 @@ module _ (xs : List Float) (n : ℕ) (small : suc n ≤ 16384) (left right : Lis
       turn-is k i ∙ ap (λ (c : Bool). cond c None (otherThan own (find built (cartesianOf (there i))) o)) (leaves-same (there i .radius))
       ∙ ap (λ (z : Option ℕ). cond b None (otherThan own z o)) (F .in-source) in (
         ap (λ (r : Located). elim b [ true ↦ At 65535 | false ↦ unlessOwn own r g ]) (F .in-port)
-        ∙ pick-same b (unlessOwn own (At (F .number)) g) (otherThan own (Some (F .number)) o) (own-same own (F .number) g o (ih .0))
-        ∙ ap (λ (z : Option ℕ). At (entered z)) (sym x),
+            ∙ pick-same b (unlessOwn own (At (F .number)) g) (otherThan own (Some (F .number)) o) (own-same own (F .number) g o (ih .0))
+            ∙ ap (λ (z : Option ℕ). At (entered z)) (sym x),
         subst (InSet (suc n)) (sym x) (pick-in b (suc n) (otherThan own (Some (F .number)) o) (own-in own (F .number) (suc n) o (F .below) (ih .1))),
       )
 
