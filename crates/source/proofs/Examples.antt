@@ -1,10 +1,10 @@
 -- The transcription run on document 01's examples P1 to P7 and P12, by computation: what it must give to be the source. Assumes nothing.
 use mathlib.Core.Path.{_≡_, refl}
 use Prim.Native.Nat.{ℕ}
-use lib.Ieee.{Float, binary32, ofBits, add, sub, mul, div, neg, lt, le, eq, isNan}
+use lib.Ieee.{binary32, ofBits, add, sub, mul, div, neg, lt, le, eq, isNan}
 use Rattle.floats.specs.Floats.{zero32, absOf, maxOf, ceilOf}
 use Rattle.points.specs.declared.Point3.{Point3}
-use Rattle.source.specs.Rust.{Option, None, Some, at, put}
+use Rattle.source.specs.Rust.{None, Some, at, put}
 use Rattle.source.specs.Kdtree.{KdTree, newBox, extendAt, extend, distSqAt, boxDistSq, newTree, «insert_rec», grownBy, insert, «dist_sq», «nearest_rec», nearestFrom, nearest}
 use Rattle.source.specs.Neighbors.{«max_steps»}
 

@@ -1,10 +1,10 @@
 -- src/sofa/interpolate.rs. Definitions only. An `ArrayVec` is a list, and so is a `Vec`.
-use mathlib.Core.Bool.{Bool, cond, _&&_, _||_}
+use mathlib.Core.Bool.{cond, _||_}
 use mathlib.Core.List.{List, [], _∷_, _++_}
 use Prim.Native.Nat.{ℕ, zero, suc, _+_, _*_}
 use lib.Dec.{eqb, leb, ltb}
 use lib.ListN.{length, getD, set, take, drop, replicate}
-use lib.Ieee.{Float, nan, binary32, add, sub, mul, div, neg, lt, ofBits}
+use lib.Ieee.{Float, binary32, add, sub, mul, div, neg, lt, ofBits}
 use Rattle.floats.specs.Floats.{zero32, one32}
 use Rattle.points.specs.declared.Point3.{Point3}
 use Rattle.root.specs.Root.{rootOf}

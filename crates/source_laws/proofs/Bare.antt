@@ -1,23 +1,23 @@
 -- The bare tree filled by inserts with room is the source's tree, and names what it names, whatever the floats. Assumes nothing.
 use mathlib.Core.Path.{_≡_, refl, sym, ap, _∙_, subst}
 use mathlib.Core.List.{List, [], _∷_, _++_}
-use Prim.Native.Nat.{ℕ, zero, suc, _+_, _-_, _<_, _≤_}
+use Prim.Native.Nat.{ℕ, suc, _+_, _-_}
 use native.Mathlib.Omega.{arith}
-use lib.ListN.{length, getD}
+use lib.ListN.{length}
 use Rattle.points.specs.declared.Point3.{Point3}
 use Rattle.kdtree.specs.declared.BoundingBox.{BoundingBox}
 use Rattle.kdtree.specs.declared.Searched.{Searched}
 use Rattle.kdtree.specs.declared.Searched.the-variants.{Found, Stopped}
-use Rattle.kdtree.specs.declared.Named.the-variants.{Nothing, Number}
+use Rattle.kdtree.specs.declared.Named.the-variants.{Number}
 use Rattle.kdtree.specs.Geometry.{grown}
-use Rattle.kdtree.specs.Tree.{Tree, gone, bad, node, subtree}
+use Rattle.kdtree.specs.Tree.{Tree, subtree}
 use Rattle.kdtree.specs.Search.{search}
 use Rattle.kdtree.specs.Insert.{Lists}
 use Rattle.kdtree.specs.Nearest.{startOf, placeOf, numberOf}
 use Rattle.kdtree.proofs.Whole as whole
-use Rattle.walks.specs.Demand3.{Numbered, Bare, empty, fill, kept, insertInto, RoomFor, nearestIn, searchIn, treeIn, standing}
+use Rattle.walks.specs.Demand3.{Numbered, Bare, empty, fill, RoomFor, nearestIn, searchIn, treeIn}
 use Rattle.walks.proofs.Pruned.{Clean}
-use Rattle.walks.proofs.Rep.{Mem, graft, rep-at}
+use Rattle.walks.proofs.Rep.{graft, rep-at}
 use Rattle.walks.proofs.Filled.{Filled, Next, first, next, root-clean, root-below}
 use Rattle.walks.proofs.Demand3.{room-now, room-kept, afterwards, keeps, empty-names-nothing}
 use Rattle.source.specs.Rust.{Option, None, Some}

@@ -1,40 +1,30 @@
 -- The plain filter and the blend: the port's outputs and delays are those that the source's fill_filter leaves. Assumes nothing.
-use mathlib.Core.Path.{_≡_, refl, sym, ap, _∙_, subst}
-use mathlib.Core.Bool.{Bool, true, false, cond, _||_}
-use mathlib.Core.List.{List, [], _∷_, _++_, map}
-use Prim.Native.Nat.{ℕ, zero, suc, _+_, _*_, _<_, _≤_}
+use mathlib.Core.Path.{_≡_, refl, ap, _∙_}
+use mathlib.Core.Bool.{Bool, true, false, cond}
+use mathlib.Core.List.{List, [], _∷_, map}
+use Prim.Native.Nat.{ℕ, _+_, _*_, _<_, _≤_}
 use native.Mathlib.Omega.{arith}
-use lib.Dec.{T, eqb, leb, ltb}
+use lib.Dec.{leb}
 use lib.ListN.{length, getD, take, drop, replicate, length-drop, length-replicate, getD-replicate}
 use lib.Seq.{getD-take, getD-drop, length-take-le}
-use lib.Ieee.{Float, nan, binary32, div, lt, neg, add}
-use borrow.Author.Tests.{le-ltb, lt-leb, le-leb, lt-ltb, ne-eqb}
-use Rattle.floats.specs.Floats.{zero32, one32}
-use Rattle.lists.specs.Each.{Each}
-use Rattle.points.specs.declared.Point3.{Point3}
-use Rattle.delays.specs.declared.Samples.{Samples}
+use lib.Ieee.{Float, nan, binary32, div}
+use borrow.Author.Tests.{le-ltb, le-leb}
+use Rattle.floats.specs.Floats.{zero32}
 use Rattle.mix.specs.declared.Share.{Share}
 use Rattle.mix.specs.Mix.{plus, sums, startOf, tapOf, sampleOf, outOf}
 use Rattle.mix.proofs.Laws as mix
-use Rattle.interpolate.specs.declared.Stride.{Stride}
-use Rattle.interpolate.specs.declared.Neighbors as port
-use Rattle.interpolate.specs.Blend.{close32, tiny32, distanceOf, known, allKnown, neighborsOf, shareOf, pairOf, pointsOf, totalFrom, totalOf, part, strideOf, delayAt, plainDelay, blendDelay, Filter, pick, extractOf, blendOf, weighedOf, interpolateOf, refusedOf}
-use Rattle.weights.specs.Weights.{Measured}
-use Rattle.weights.proofs.Distances.{distance-nonneg}
-use Rattle.weights.proofs.Weights.{weight-nonneg}
-use Rattle.source.specs.Rust.{Option, None, Some}
-use Rattle.source.specs.Lookup.{Hrtf, triplet}
-use Rattle.source.specs.Neighbors.{Neighbors, get}
+use Rattle.interpolate.specs.Blend.{part, strideOf, delayAt, plainDelay, blendDelay, Filter, extractOf, blendOf}
+use Rattle.source.specs.Rust.{None, Some}
+use Rattle.source.specs.Lookup.{Hrtf}
 use Rattle.source.specs.Interpolate as source
-use Rattle.source.specs.Interpolate.{InterpolatedFilter, Weighted, distance, «add_closer_neighbor», extractDelays, «extract_filter», «weight_sum», sumFrom, adding, addDelays, addPoint, addPoints, silent, points, blended, interpolate}
+use Rattle.source.specs.Interpolate.{InterpolatedFilter, Weighted, extractDelays, «extract_filter», adding, addDelays, addPoint, addPoints, silent}
 use Rattle.source.specs.Reader as reader
-use Rattle.source.specs.Reader.{Sofar, fillEar, «fill_filter», filledOr}
-use Rattle.source_laws.specs.Drawn.{hrtfOf, entered, enteredAll, heard}
+use Rattle.source.specs.Reader.{Sofar, «fill_filter», filledOr}
+use Rattle.source_laws.specs.Drawn.{hrtfOf, heard}
 use Rattle.source_laws.proofs.Built.{inside}
-use Rattle.source_laws.proofs.Steps.{InSet}
 use Rattle.source_laws.proofs.Ears.{ear-same, adding-long, adding-at}
 use Rattle.source_laws.proofs.Delays as delay
-use Rattle.source_laws.proofs.Points.{shared, listed, dist-here, pair-same, AllIn, added-in, minus-zero, sum-same}
+use Rattle.source_laws.proofs.Points.{shared, listed, AllIn}
 
 module _ (m r n : ℕ) (xs resp delays : List Float) (rate : Float) (small : m ≤ 16384) (long : 3 * m ≤ length xs) (two : 2 ≤ r) (taps : m * r * n ≤ length resp) where
   abbrev set : Hrtf

@@ -1,6 +1,6 @@
 -- The source's Lookup::new and the port's build: the same tree, box and six bounds. Assumes nothing.
-use mathlib.Core.Path.{_≡_, refl, sym, ap, _∙_, subst}
-use mathlib.Core.Bool.{Bool, true, false, cond, _||_, not}
+use mathlib.Core.Path.{_≡_, refl, sym, ap, _∙_}
+use mathlib.Core.Bool.{Bool, true, false, cond, _||_}
 use mathlib.Core.List.{List}
 use Prim.Native.Nat.{ℕ, zero, suc, _+_, _*_, _%_, _<_, _≤_}
 use native.Mathlib.Omega.{arith}
@@ -14,7 +14,6 @@ use Rattle.points.specs.declared.Point3.{Point3}
 use Rattle.points.specs.Points.{pointAt}
 use Rattle.kdtree.specs.declared.BoundingBox.{BoundingBox}
 use Rattle.kdtree.specs.Geometry.{grown}
-use Rattle.kdtree.specs.Tree.{Tree, gone, bad, node}
 use Rattle.coords.specs.Coords.{sphericalOf, radiusOf}
 use Rattle.walks.proofs.Pruned.{Clean}
 use Rattle.walks.proofs.Rep.{graft, graft-clean}
@@ -41,16 +40,13 @@ measuredTo xs (suc n) = measured ported (measuredTo xs n) (pointAt xs n) n
 
 -- ---- the loop
 
-triplet-is : (xs : List Float) (m i : ℕ) → i < m → triplet (take (3 * m) xs) (i * 3) ≡ pointAt xs i
+pub point-here : (xs : List Float) (m i : ℕ) → i < m → triplet (take (3 * m) xs) (i * 3) ≡ pointAt xs i
 unfolding pointAt
-triplet-is xs m i h =
+point-here xs m i h =
     let a : getD (take (3 * m) xs) (i * 3) nan ≡ getD xs (3 * i) nan = getD-take (3 * m) xs (i * 3) nan (omega arith) ∙ (let e : i * 3 ≡ 3 * i = omega arith in ap (λ (k : ℕ). getD xs k nan) e) in
     let b : getD (take (3 * m) xs) (i * 3 + 1) nan ≡ getD xs (3 * i + 1) nan = getD-take (3 * m) xs (i * 3 + 1) nan (omega arith) ∙ (let e : i * 3 + 1 ≡ 3 * i + 1 = omega arith in ap (λ (k : ℕ). getD xs k nan) e) in
     let c : getD (take (3 * m) xs) (i * 3 + 2) nan ≡ getD xs (3 * i + 2) nan = getD-take (3 * m) xs (i * 3 + 2) nan (omega arith) ∙ (let e : i * 3 + 2 ≡ 3 * i + 2 = omega arith in ap (λ (k : ℕ). getD xs k nan) e) in
     λ j. record { x = a j; y = b j; z = c j }
-
-pub point-here : (xs : List Float) (m i : ℕ) → i < m → triplet (take (3 * m) xs) (i * 3) ≡ pointAt xs i
-point-here xs m i h = triplet-is xs m i h
 
 -- no turn breaks off
 pub inside : (xs : List Float) (m i : ℕ) → 3 * m ≤ length xs → i < m → leb (length (take (3 * m) xs)) (i * 3 + 2) ≡ false
@@ -63,7 +59,7 @@ loop xs m (suc k) i h l =
     let sp = take (3 * m) xs in
     let e : i + 1 + k ≡ i + suc k = omega arith in
     ap (λ (b : Bool). cond b (measuredTo xs i) (measuring ported sp 3 k (i + 1) (measured ported (measuredTo xs i) (triplet sp (i * 3)) i))) (inside xs m i h (omega arith))
-    ∙ ap (λ (p : Point3). measuring ported sp 3 k (i + 1) (measured ported (measuredTo xs i) p i)) (triplet-is xs m i (omega arith))
+    ∙ ap (λ (p : Point3). measuring ported sp 3 k (i + 1) (measured ported (measuredTo xs i) p i)) (point-here xs m i (omega arith))
     ∙ ap (measuring ported sp 3 k (i + 1)) (more i)
     ∙ loop xs m k (i + 1) h (omega arith)
     ∙ ap (measuredTo xs) e

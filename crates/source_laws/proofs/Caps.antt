@@ -1,16 +1,15 @@
 -- The source's step cap for an allowed angle step is the port's: the larger of the two magnitudes is the step. Assumes nothing.
-use mathlib.Core.Path.{_≡_, refl, sym, ap, _∙_, subst}
-use mathlib.Core.Bool.{Bool, true, false, cond, _||_, not}
-use Prim.Native.Nat.{ℕ}
+use mathlib.Core.Path.{_≡_, refl, sym, ap, subst}
+use mathlib.Core.Bool.{Bool, true, false, cond, not}
 use lib.Dec.{T}
-use lib.Ieee.{Float, nan, inf, fin, binary32, div, neg, lt, le, eq, isNan, ofBits, round}
-use Rattle.floats.specs.Floats.{zero32, absOf, maxOf, ceilOf}
+use lib.Ieee.{Float, nan, inf, fin, binary32, neg, lt, le, isNan, ofBits}
+use Rattle.floats.specs.Floats.{zero32, absOf, maxOf}
 use Rattle.floats.proofs.Cross.{is-true}
 use Rattle.floats.proofs.Preorder.{lt-le-trans, lt→le, le→not-lt}
-use Rattle.limits.specs.Allowed.{nearest, between, angleStepOk}
+use Rattle.limits.specs.Allowed.{nearest, angleStepOk}
 use Rattle.limits.proofs.Ends.{tenth, between-low}
 use Rattle.neighbors.specs.Neighbors.{angleCap}
-use Rattle.source.specs.Neighbors.{«MAX_SEARCH_ANGLE», «max_steps»}
+use Rattle.source.specs.Neighbors.{«max_steps»}
 
 -- an allowed step is above 0
 pub above-zero : (x : Float) → angleStepOk x ≡ true → lt zero32 x ≡ true

@@ -1,5 +1,5 @@
 -- Delays by their count: the source's three cases and the port's stride. Assumes nothing.
-use mathlib.Core.Path.{_≡_, refl, sym, ap, _∙_, subst}
+use mathlib.Core.Path.{_≡_, refl, sym, ap, _∙_}
 use mathlib.Core.Bool.{Bool, true, false, cond}
 use mathlib.Core.List.{List, [], _∷_}
 use Prim.Native.Nat.{ℕ, zero, suc, _+_, _*_, _<_, _≤_}
@@ -8,7 +8,7 @@ use native.Mathlib.Omega.{arith}
 use lib.Dec.{eqb, leb, ltb}
 use lib.ListN.{length, getD}
 use lib.Ieee.{Float, nan, binary32, add, mul}
-use borrow.Author.Tests.{eqb-true, leb-true, leb-false, lt-ltb}
+use borrow.Author.Tests.{eqb-true, leb-true, lt-ltb}
 use Rattle.floats.specs.Floats.{zero32}
 use Rattle.mix.specs.Mix.{plus}
 use Rattle.interpolate.specs.declared.Stride.{Stride}

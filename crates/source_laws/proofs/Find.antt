@@ -1,11 +1,9 @@
 -- find and find_mut of a loaded set: the port's answer is the source's, never refused. Assumes nothing.
-use mathlib.Core.Path.{_≡_, refl, sym, ap, _∙_, subst}
-use mathlib.Core.Bool.{Bool, cond, _&&_}
+use mathlib.Core.Path.{_≡_, refl, sym, ap, _∙_}
 use mathlib.Core.List.{List}
-use Prim.Native.Nat.{ℕ, zero, suc, _+_, _<_, _≤_}
+use Prim.Native.Nat.{ℕ, suc, _+_, _<_, _≤_}
 use native.Mathlib.Omega.{arith}
-use lib.Ieee.{Float, binary32, mul, div, lt}
-use Rattle.floats.specs.Floats.{zero32}
+use lib.Ieee.{Float}
 use Rattle.points.specs.declared.Point3.{Point3}
 use Rattle.points.specs.Points.{pointAt, distSq}
 use Rattle.kdtree.specs.declared.BoundingBox.{BoundingBox}
@@ -21,22 +19,19 @@ use Rattle.kdtree.proofs.Nodes.{subtree-below, found-below}
 use Rattle.coords.specs.Coords.{radiusOf}
 use Rattle.walks.proofs.Pruned.{Clean}
 use Rattle.walks.proofs.Rep.{RepAt}
-use Rattle.lookup.specs.declared.Lookup.{Lookup}
-use Rattle.lookup.specs.declared.Located.{Located}
-use Rattle.lookup.specs.declared.Located.the-variants.{At, Refused}
+use Rattle.lookup.specs.declared.Located.the-variants.{At}
 use Rattle.lookup.specs.Build.{boxOf, boxTo, linked, lookupOf}
 use Rattle.lookup.specs.Lookup.{scaled, clampedTo, clampedBy, locatedAs, locateOf}
 use Rattle.source.specs.Rust.{Option, None, Some}
 use Rattle.source.specs.Coords.{radius}
 use Rattle.source.specs.Kdtree as source
-use Rattle.source.specs.Kdtree.{KdNode, kdNode, Link, none, some, dataOf, posOf, «nearest_rec», nearerSide, nearestFrom, nearest}
-use Rattle.source.specs.Lookup as looked
+use Rattle.source.specs.Kdtree.{kdNode, Link, some, dataOf, «nearest_rec», nearerSide, nearestFrom, nearest}
 use Rattle.source.specs.Lookup.{«normalize_radius», find}
 use Rattle.source_laws.specs.Drawn.{boxed, flat}
 use Rattle.source_laws.proofs.Shapes.{dist-same}
 use Rattle.source_laws.proofs.Search.{Matches, follows}
 use Rattle.source_laws.proofs.Linked.{grownTo, draws, Holds, drawn-is}
-use Rattle.source_laws.proofs.Built.{place, measuredTo, root-same, boxBy, bounds-same, box-same, grown-clean, SixSame, six-same}
+use Rattle.source_laws.proofs.Built.{place, measuredTo, root-same, boxBy, bounds-same, box-same, six-same}
 
 -- ---- nearest
 

@@ -1,16 +1,14 @@
 -- The source's insert_rec puts its node where the port's links come to hang it. Assumes nothing.
-use mathlib.Core.Path.{_≡_, refl, sym, ap, _∙_}
+use mathlib.Core.Path.{_≡_, refl, ap, _∙_}
 use mathlib.Core.Logic.{inl, inr}
 use mathlib.Core.Bool.{Bool, true, false, cond}
 use Prim.Native.Nat.{ℕ, _+_, _%_}
-use lib.Ieee.{lt}
 use Rattle.points.specs.declared.Point3.{Point3}
 use Rattle.kdtree.specs.Geometry.{nextAxis, goesLeft}
 use Rattle.kdtree.specs.Tree.{Tree, gone, bad, node}
 use Rattle.walks.proofs.Pruned.{Clean}
 use Rattle.walks.proofs.Rep.{Mem, graft}
-use Rattle.source.specs.Rust.{at}
-use Rattle.source.specs.Kdtree.{Link, KdNode, kdNode, none, some, «insert_rec»}
+use Rattle.source.specs.Kdtree.{Link, kdNode, none, some, «insert_rec»}
 use Rattle.source_laws.specs.Drawn.{boxed}
 use Rattle.source_laws.proofs.Shapes.{next-depth, goes-left}
 

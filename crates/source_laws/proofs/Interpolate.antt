@@ -1,18 +1,18 @@
 -- The source's interpolate, filled in, and the port's filter query: the same samples and delays. Assumes nothing.
-use mathlib.Core.Path.{_≡_, refl, sym, ap, _∙_, subst}
-use mathlib.Core.Bool.{Bool, true, false, cond, _||_, _&&_}
+use mathlib.Core.Path.{_≡_, refl, sym, ap, _∙_}
+use mathlib.Core.Bool.{Bool, true, false, cond, _||_}
 use mathlib.Core.List.{List, [], _∷_, _++_, map}
-use Prim.Native.Nat.{ℕ, zero, suc, _+_, _*_, _<_, _≤_}
+use Prim.Native.Nat.{ℕ, _+_, _*_, _<_, _≤_}
 use native.Mathlib.Omega.{arith}
-use lib.Dec.{T, eqb, leb, ltb}
-use lib.ListN.{length, getD, take}
-use lib.Ieee.{Float, binary32, div, lt, neg, add}
+use lib.Dec.{leb}
+use lib.ListN.{length, take}
+use lib.Ieee.{Float, binary32, div, lt, neg}
 use borrow.Author.Tests.{le-ltb, lt-leb, lt-ltb, ne-eqb}
 use Rattle.floats.specs.Floats.{zero32, one32}
 use Rattle.points.specs.declared.Point3.{Point3}
 use Rattle.mix.specs.declared.Share.{Share}
 use Rattle.interpolate.specs.declared.Neighbors as port
-use Rattle.interpolate.specs.Blend.{close32, tiny32, distanceOf, known, allKnown, neighborsOf, shareOf, pairOf, pointsOf, totalFrom, totalOf, part, Filter, pick, extractOf, blendOf, weighedOf, interpolateOf, refusedOf}
+use Rattle.interpolate.specs.Blend.{close32, tiny32, distanceOf, known, allKnown, neighborsOf, pairOf, pointsOf, totalFrom, totalOf, part, Filter, pick, extractOf, blendOf, weighedOf, interpolateOf, refusedOf}
 use Rattle.weights.specs.Weights.{Measured}
 use Rattle.weights.proofs.Distances.{distance-nonneg}
 use Rattle.weights.proofs.Weights.{weight-nonneg}
@@ -20,13 +20,13 @@ use Rattle.source.specs.Rust.{Option, None, Some}
 use Rattle.source.specs.Lookup.{Hrtf, triplet}
 use Rattle.source.specs.Neighbors.{Neighbors, get}
 use Rattle.source.specs.Interpolate as source
-use Rattle.source.specs.Interpolate.{InterpolatedFilter, Weighted, distance, «add_closer_neighbor», «extract_filter», «weight_sum», sumFrom, addPoints, silent, blended, interpolate}
+use Rattle.source.specs.Interpolate.{InterpolatedFilter, Weighted, distance, «add_closer_neighbor», «extract_filter», «weight_sum», addPoints, silent, blended, interpolate}
 use Rattle.source.specs.Reader as reader
 use Rattle.source.specs.Reader.{Sofar, filledOr}
 use Rattle.source_laws.specs.Drawn.{hrtfOf, entered, enteredAll, heard}
 use Rattle.source_laws.proofs.Built.{inside}
 use Rattle.source_laws.proofs.Steps.{InSet}
-use Rattle.source_laws.proofs.Points.{shared, listed, dist-here, pair-same, AllIn, added-in, minus-zero, sum-same}
+use Rattle.source_laws.proofs.Points.{listed, dist-here, pair-same, AllIn, added-in, minus-zero, sum-same}
 use Rattle.source_laws.proofs.Blend.{extract-same, blend-same}
 
 -- each of the six is absent or one of the m measurements

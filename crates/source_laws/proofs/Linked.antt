@@ -6,16 +6,15 @@ use native.Mathlib.Omega.{arith}
 use lib.ListN.{length, getD, set, length-set, List·getD-append}
 use lib.Seq.{getD-at, getD-set-same, getD-set-other}
 use lib.Ieee.{Float}
-use Rattle.points.specs.declared.Point3.{Point3}
 use Rattle.points.specs.Points.{pointAt}
 use Rattle.kdtree.specs.declared.Slot.{Slot}
 use Rattle.kdtree.specs.declared.Slot.the-variants.{Left, Right, None}
-use Rattle.kdtree.specs.Tree.{Tree, gone, bad, node, subtree}
+use Rattle.kdtree.specs.Tree.{Tree, gone, node, subtree}
 use Rattle.kdtree.specs.Insert.{slotIn}
 use Rattle.kdtree.specs.Unpruned.{size}
 use Rattle.kdtree.proofs.Nodes.{OwnerBelow}
 use Rattle.walks.proofs.Pruned.{Clean}
-use Rattle.walks.proofs.Rep.{Distinct, graft, graft-clean, graft-size, graft-distinct, RepAt, rep-at, Owner, New, graft-root}
+use Rattle.walks.proofs.Rep.{Distinct, graft, graft-clean, graft-size, graft-distinct, RepAt, rep-at, New, graft-root}
 use Rattle.walks.proofs.Filled.{root-below}
 use Rattle.lookup.specs.Build.{Links, ownedBy, slotAt, ownedAt, withLeaf, linked}
 use Rattle.lookup.proofs.Links.{same-tree, linked-left, linked-right, owner}

@@ -1,11 +1,10 @@
 -- The points of a blend and the sum of their weights: the source's are the port's. Assumes nothing.
 use mathlib.Core.Path.{_≡_, refl, sym, ap, _∙_, subst}
-use mathlib.Core.Bool.{Bool, true, false, cond, _&&_, Bool·beq}
+use mathlib.Core.Bool.{Bool, true, false, cond, _&&_}
 use mathlib.Core.List.{List, [], _∷_, _++_, map}
-use Prim.Native.Nat.{ℕ, zero, suc, _+_, _-_, _*_, _<_, _≤_}
+use Prim.Native.Nat.{ℕ, _+_, _-_, _*_, _<_, _≤_}
 use native.Mathlib.Omega.{arith}
-use lib.Dec.{T, eqb, leb, ltb}
-use lib.IntN.{ℤ}
+use lib.Dec.{T, leb, ltb}
 use lib.ListN.{length, take}
 use lib.Ieee.{Float, nan, inf, fin, binary32, up, down, add, sum, div, neg, lt, round, ofBits}
 use borrow.Author.Tests.{ne-eqb, ltb-false, le-ltb}
@@ -16,19 +15,15 @@ use Rattle.floats.proofs.Cross.{is-true}
 use Rattle.floats.proofs.Preorder.{lt-trans-f}
 use Rattle.points.specs.declared.Point3.{Point3}
 use Rattle.points.specs.Points.{pointAt, distSq}
-use Rattle.root.specs.Root.{rootOf}
 use Rattle.mix.specs.declared.Share.{Share}
 use Rattle.mix.proofs.Laws.{append-nil}
 use Rattle.interpolate.specs.declared.Closest.{Closest}
-use Rattle.interpolate.specs.declared.Neighbors as port
 use Rattle.interpolate.specs.Blend as blend
-use Rattle.interpolate.specs.Blend.{tiny32, largest32, distanceOf, nothing, shareOf, taken, pairOf, pointsOf, totalFrom, totalOf}
+use Rattle.interpolate.specs.Blend.{tiny32, largest32, distanceOf, nothing, shareOf, taken, pairOf, totalFrom}
 use Rattle.source.specs.Rust.{Option, None, Some, at, MAX}
 use Rattle.source.specs.Lookup.{triplet}
-use Rattle.source.specs.Neighbors.{Neighbors}
-use Rattle.source.specs.Interpolate as source
-use Rattle.source.specs.Interpolate.{«1e-10», Weighted, Closer, distance, closer, pushed, «add_closer_neighbor», sumFrom, «weight_sum»}
-use Rattle.source_laws.specs.Drawn.{entered, hrtfOf}
+use Rattle.source.specs.Interpolate.{«1e-10», Weighted, Closer, distance, closer, pushed, «add_closer_neighbor», sumFrom}
+use Rattle.source_laws.specs.Drawn.{entered}
 use Rattle.source_laws.proofs.Built.{point-here, inside}
 use Rattle.source_laws.proofs.Steps.{InSet}
 

@@ -1,5 +1,5 @@
 -- A row of the neighbour table: its six entries stand for the source's six. Assumes nothing.
-use mathlib.Core.Path.{_≡_, refl, sym, ap, _∙_, subst}
+use mathlib.Core.Path.{_≡_, refl, ap, _∙_, subst}
 use mathlib.Core.List.{List, [], _∷_, _++_}
 use mathlib.Core.Bool.{Bool, true, false}
 use Prim.Native.Nat.{ℕ, zero, suc, _+_, _*_, _/_, _%_, _<_, _≤_}
@@ -16,7 +16,6 @@ use Rattle.interpolate.specs.Blend.{neighborsOf}
 use Rattle.source.specs.Neighbors.{Neighbors}
 use Rattle.source_laws.specs.Drawn.{entered, sixth, enteredAll}
 use Rattle.source_laws.proofs.Linked.{Holds}
-use Rattle.source_laws.proofs.Steps.{InSet}
 use Rattle.source_laws.proofs.Table.{six, entryAt, six-same}
 use Rattle.source_laws.proofs.Interpolate.{SixIn}
 

@@ -1,16 +1,16 @@
 -- THE THEOREM: what a loaded set answers is what the source answers (specs/Same.antt). Assumes nothing.
-use mathlib.Core.Path.{_≡_, refl, sym, ap, _∙_, subst}
+use mathlib.Core.Path.{_≡_, refl, sym, ap, _∙_}
 use mathlib.Core.List.{List}
-use Prim.Native.Nat.{ℕ, zero, suc, _+_, _*_, _<_, _≤_}
+use Prim.Native.Nat.{ℕ, zero, suc, _<_}
 use native.Mathlib.Omega.{arith}
 use lib.ListN.{length, getD, drop, List·getD-append}
 use lib.Ieee.{Float}
-use Rattle.lists.specs.Over.{over, upto}
+use Rattle.lists.specs.Over.{over}
 use Rattle.points.specs.declared.Point3.{Point3}
-use Rattle.points.specs.Points.{pointAt, Finite}
-use Rattle.kdtree.specs.Tree.{Tree, subtree}
+use Rattle.points.specs.Points.{Finite}
+use Rattle.kdtree.specs.Tree.{Tree}
 use Rattle.interpolate.specs.Blend.{neighborsOf}
-use Rattle.lookup.specs.Build.{Links, linked, buildOf, boxOf, lookupOf}
+use Rattle.lookup.specs.Build.{linked, buildOf, boxOf, lookupOf}
 use Rattle.lookup.specs.declared.Located.{Located}
 use Rattle.lookup.specs.declared.Located.the-variants.{At}
 use Rattle.lookup.specs.Lookup.{clampedBy, locateOf, unless, findOf, findMutOf, movedAs, movedBy, pointIn, putPoint}
@@ -18,22 +18,19 @@ use Rattle.limits.specs.declared.Verdict.{Verdict}
 use Rattle.limits.specs.declared.Verdict.the-variants.{Fine}
 use Rattle.limits.specs.Refusals.{verdictOf, findLines}
 use Rattle.lookup.proofs.Links.{linked-left, linked-right}
-use Rattle.neighbors.specs.Neighbors.{Tabled, tableOf}
-use Rattle.weights.specs.Weights.{Measured}
-use Rattle.source.specs.Rust.{Option, None, Some}
-use Rattle.source.specs.Kdtree.{nearest}
-use Rattle.source.specs.Lookup as looked
+use Rattle.neighbors.specs.Neighbors.{Tabled}
+use Rattle.source.specs.Rust.{Option, Some}
 use Rattle.source.specs.Lookup.{«find_mut», find, «normalize_radius»}
 use Rattle.source.specs.Neighbors.{Neighbors, newNeighborhood, get}
-use Rattle.source.specs.Interpolate.{interpolate, «extract_filter», «get_filter_nointerp»}
+use Rattle.source.specs.Interpolate.{«extract_filter», «get_filter_nointerp»}
 use Rattle.source.specs.Reader as reader
 use Rattle.source.specs.Reader.{Sofar, opened, openedBy, filledOr, filterAt, filter, nointerpAt, «filter_nointerp»}
-use Rattle.source_laws.specs.Drawn.{boxed, ported, hrtfOf, enteredAll, heard}
+use Rattle.source_laws.specs.Drawn.{boxed, ported, enteredAll, heard}
 use Rattle.source_laws.specs.Same.{Set, Loaded, hrtf, sizes, lengths, look, blend, plain, SameAsSource}
 use Rattle.source_laws.proofs.Linked.{Holds, drawn-is}
-use Rattle.source_laws.proofs.Built.{measuredTo, root-same, boxBy, bounds-same, box-same, SixSame, six-same, new-same}
+use Rattle.source_laws.proofs.Built.{measuredTo, root-same, boxBy, bounds-same, box-same, six-same, new-same}
 use Rattle.source_laws.proofs.Find.{Finds, finds, clamp-same}
-use Rattle.source_laws.proofs.Table.{six, entryAt, table-same, neighborhood-same}
+use Rattle.source_laws.proofs.Table.{six, table-same, neighborhood-same}
 use Rattle.source_laws.proofs.Blend.{extract-same}
 use Rattle.source_laws.proofs.Interpolate.{interpolate-same}
 use Rattle.source_laws.proofs.Rows.{row-same, row-in}

@@ -1,10 +1,9 @@
 -- The source's nearest_rec and the port's search come to the same node, visit by visit, whatever the floats. Assumes nothing.
-use mathlib.Core.Path.{_≡_, refl, sym, ap, _∙_, subst}
+use mathlib.Core.Path.{_≡_, refl, ap, _∙_, subst}
 use mathlib.Core.Bool.{Bool, true, false, cond}
 use Prim.Native.Nat.{ℕ, suc, _+_, _≤_}
 use native.Mathlib.Omega.{arith}
-use lib.Ieee.{Float, binary32, sub, lt, le}
-use Rattle.floats.specs.Floats.{zero32}
+use lib.Ieee.{Float, lt}
 use Rattle.points.specs.declared.Point3.{Point3}
 use Rattle.points.specs.Points.{distSq}
 use Rattle.kdtree.specs.declared.BoundingBox.{BoundingBox}
@@ -18,7 +17,7 @@ use Rattle.kdtree.specs.Unpruned.{size}
 use Rattle.walks.proofs.Pruned.{Clean, search-left, search-right, improve-visits}
 use Rattle.source.specs.Rust.{at, put}
 use Rattle.source.specs.Kdtree as source
-use Rattle.source.specs.Kdtree.{Link, KdNode, kdNode, none, some, dataOf, current, «dist_sq», «nearest_rec», nearerSide, fartherSide}
+use Rattle.source.specs.Kdtree.{Link, KdNode, kdNode, some, dataOf, current, «nearest_rec», nearerSide, fartherSide}
 use Rattle.source_laws.specs.Drawn.{boxed, flat}
 use Rattle.source_laws.proofs.Shapes.{at-coord, dist-same, flat-max, flat-min, box-dist, left-first}
 

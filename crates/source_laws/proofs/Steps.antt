@@ -3,7 +3,6 @@ use mathlib.Core.Path.{_≡_, refl, sym, ap, _∙_, subst}
 use mathlib.Core.Bool.{Bool, true, false, cond, _||_}
 use mathlib.Core.List.{List}
 use Prim.Native.Nat.{ℕ, zero, suc, _+_, _<_, _≤_}
-use native.Mathlib.Omega.{arith}
 use lib.Dec.{eqb}
 use lib.Ieee.{Float, binary32, add, sub, lt}
 use Rattle.floats.specs.Floats.{absOf}
@@ -12,9 +11,8 @@ use Rattle.coords.specs.declared.Spherical.{Spherical}
 use Rattle.coords.specs.Coords.{turnOf, alongOf, cartesianOf}
 use Rattle.lookup.specs.declared.Lookup.{Lookup}
 use Rattle.lookup.specs.declared.Located.{Located}
-use Rattle.lookup.specs.declared.Located.the-variants.{At, Refused}
+use Rattle.lookup.specs.declared.Located.the-variants.{At}
 use Rattle.lookup.specs.Build.{lookupOf}
-use Rattle.lookup.specs.Lookup.{locateOf}
 use Rattle.neighbors.specs.Neighbors.{after, tilted, distant, moved, leaves, unlessOwn, going}
 use Rattle.source.specs.Rust.{Option, None, Some, array}
 use Rattle.source.specs.Coords.{«spherical_to_cartesian»}
@@ -23,8 +21,8 @@ use Rattle.source.specs.Lookup.{find}
 use Rattle.source.specs.Neighbors.{otherThan, stepping}
 use Rattle.source_laws.specs.Drawn.{ported, entered}
 use Rattle.source_laws.proofs.Linked.{Holds}
-use Rattle.source_laws.proofs.Built.{measuredTo, SixSame, six-same}
-use Rattle.source_laws.proofs.Find.{Finds, finds}
+use Rattle.source_laws.proofs.Built.{measuredTo, six-same}
+use Rattle.source_laws.proofs.Find.{finds}
 
 -- absent, or one of the m measurements
 abbrev pub InSet : ℕ → Option ℕ → Type 0

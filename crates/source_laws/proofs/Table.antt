@@ -1,10 +1,9 @@
 -- The six neighbours of each measurement, and the whole table: the port's entries are the source's. Assumes nothing.
 use mathlib.Core.Path.{_≡_, refl, sym, ap, _∙_, subst}
-use mathlib.Core.Bool.{Bool, true, false, cond}
+use mathlib.Core.Bool.{Bool, true, cond}
 use mathlib.Core.List.{List}
 use Prim.Native.Nat.{ℕ, zero, suc, _+_, _*_, _/_, _%_, _<_, _≤_}
 use native.Mathlib.Omega.{arith}
-use lib.Dec.{leb}
 use lib.ListN.{length, take}
 use lib.Ieee.{Float, neg}
 use Rattle.floats.specs.Floats.{zero32, absOf}
@@ -15,12 +14,11 @@ use Rattle.coords.specs.declared.Spherical.{Spherical}
 use Rattle.coords.specs.Coords.{sphericalOf}
 use Rattle.limits.specs.declared.Verdict.the-variants as verdict
 use Rattle.limits.specs.Allowed.{angleStepOk}
-use Rattle.lookup.specs.declared.Located.{Located}
 use Rattle.lookup.specs.declared.Located.the-variants.{At}
 use Rattle.lookup.specs.Build.{lookupOf}
 use Rattle.neighbors.specs.Neighbors.{steps, stepOf, angleCap, capOf, going, directionOf, neighborOf, entryOf, tabledAs, tableOf}
 use Rattle.neighbors.proofs.Table.{all-answered}
-use Rattle.source.specs.Rust.{Option, None, Some, array}
+use Rattle.source.specs.Rust.{Option, Some, array}
 use Rattle.source.specs.Coords.{«cartesian_to_spherical»}
 use Rattle.source.specs.Lookup.{triplet}
 use Rattle.source.specs.Neighbors.{Neighbors, defaultNeighbors, «max_steps», stepping, «search_direction», «find_neighbors», pushing, newNeighborhood, get}

@@ -3,7 +3,6 @@ use mathlib.Core.List.{List}
 use Prim.Native.Nat.{ℕ, zero, suc, _*_}
 use lib.ListN.{take}
 use lib.Ieee.{Float}
-use Rattle.points.specs.declared.Point3.{Point3}
 use Rattle.kdtree.specs.declared.BoundingBox.{BoundingBox}
 use Rattle.kdtree.specs.Geometry.{nextAxis}
 use Rattle.kdtree.specs.Tree.{Tree, gone, bad, node}
@@ -16,7 +15,7 @@ use Rattle.delays.specs.Delays.{answerOf}
 use Rattle.interpolate.specs.declared.Neighbors as port
 use Rattle.interpolate.specs.Blend.{Filter}
 use Rattle.source.specs.Kdtree as source
-use Rattle.source.specs.Kdtree.{Link, KdNode, kdNode, none, some}
+use Rattle.source.specs.Kdtree.{Link, kdNode, none, some}
 
 -- the source's tree that the links draw: `number` says which number is kept with a place. A set that was filled draws no bad side.
 unfoldable pub boxed : (ℕ → ℕ) → Tree → ℕ → Link

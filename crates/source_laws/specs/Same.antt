@@ -23,9 +23,9 @@ use Rattle.lookup.specs.Build.{Links, lookupOf, buildOf}
 use Rattle.lookup.specs.Lookup.{clampedBy, locateOf, treeLengths, findOf, findMutOf, movedAs, pointIn, putPoint}
 use Rattle.neighbors.specs.Neighbors.{tableOf}
 use Rattle.interpolate.specs.Blend.{neighborsOf, Filter, extractOf, interpolateOf}
-use Rattle.source.specs.Rust.{Option, Some}
+use Rattle.source.specs.Rust.{Some}
 use Rattle.source.specs.Kdtree as source
-use Rattle.source.specs.Lookup.{Hrtf, FoundMut, «normalize_radius», find, «find_mut»}
+use Rattle.source.specs.Lookup.{Hrtf, «normalize_radius», find, «find_mut»}
 use Rattle.source.specs.Neighbors.{Neighbors, get}
 use Rattle.source.specs.Interpolate.{«get_filter_nointerp»}
 use Rattle.source.specs.Reader as reader
@@ -88,10 +88,8 @@ pub record SameAsSource (s : Set) : Type 0 where
   -- the source opens the set
   pub sofar : Sofar
   pub opens : opened ported (hrtf s) (s .angle) (s .radius) ≡ Some sofar
-
   -- its tree, node by node: the links draw it, each measurement's number being its place
   pub tree : sofar .lookup .kdtree .root ≡ boxed (λ i. i) (subtree (s .left) (s .right) (s .cartesian) (s .m) (s .m) 0) 0
-
   -- its box, and its six bounds
   pub box : source.BoundingBox
   pub has-box : sofar .lookup .kdtree .bounds ≡ Some box
@@ -102,12 +100,10 @@ pub record SameAsSource (s : Set) : Type 0 where
   pub theta-max : sofar .lookup .«theta_max» ≡ look s .«theta_max»
   pub radius-min : sofar .lookup .«radius_min» ≡ look s .«radius_min»
   pub radius-max : sofar .lookup .«radius_max» ≡ look s .«radius_max»
-
   -- its neighbours of each measurement, 65535 for None
   pub row : ℕ → Neighbors
   pub has-row : (k : ℕ) → k < s .m → get (sofar .neighborhood) k ≡ Some (row k)
   pub entries : (k : ℕ) → k < s .m → neighborsOf (s .neighbours) k ≡ enteredAll (row k)
-
   -- the radius clamp and the number found, for any query: the port never refuses 9; and what find and find_mut answer where their checks pass
   pub clamp : (q : Point3) → «normalize_radius» (sofar .lookup) q ≡ clampedBy (look s) q
   pub number : Point3 → ℕ
@@ -118,7 +114,6 @@ pub record SameAsSource (s : Set) : Type 0 where
   pub port-moves : (l : List Float) → verdictOf (findLines (sizes s) (lengths s) (pointIn l)) ≡ Fine
       → findMutOf (look s) (sizes s) (s .cartesian) (s .left) (s .right) l ≡ movedAs (At (number (pointIn l))) (putPoint l (clampedBy (look s) (pointIn l)))
   pub source-moves : (q : Point3) → «find_mut» (sofar .lookup) q ≡ record { answer = Some (number q); coordinate = clampedBy (look s) q }
-
   -- the filters: samples of both outputs, and both delays in seconds
   pub filters : (q : Point3) → Finite q → (out : reader.Filter) → filter sofar (q .x) (q .y) (q .z) out ≡ heard (blend s out q (number q))
   pub filters-plain : (q : Point3) (out : reader.Filter) → «filter_nointerp» sofar (q .x) (q .y) (q .z) out ≡ heard (plain s out (number q))

@@ -1,1 +1,11 @@
-// Demand 2: the port answers what the source answers. Theory alone: no function.
+// Demand 2 as a theorem: the port answers what the source answers, bit for bit. Theory alone: no function.
+//
+// The source's side is the crate source, its functions transcribed one by one; the port's side is the definitions that the contracts cite. specs/Same.antt
+// states it on one page for a loaded set (`SameAsSource`): tree, box, six bounds, neighbour table, radius clamp, find, find_mut, the blended and the plain
+// filter and the filter by number. specs/Bare.antt states it for the bare tree (`SameTree`), for any f32. proofs/Same.antt (`same`) and proofs/Bare.antt
+// (`bare`) prove it, with nothing assumed. specs/Drawn.antt says which values of the source the port's lists and structs stand for.
+//
+// The way there: proofs/Shapes.antt (points and boxes), proofs/Search.antt (nearest_rec, visit by visit), proofs/Insert.antt (insert_rec), proofs/Linked.antt
+// (what a loaded set's links draw), proofs/Built.antt and proofs/Find.antt (lookup.rs), proofs/Caps.antt, proofs/Steps.antt, proofs/Table.antt and
+// proofs/Rows.antt (neighbors.rs), proofs/Points.antt, proofs/Delays.antt, proofs/Ears.antt, proofs/Blend.antt and proofs/Interpolate.antt (interpolate.rs
+// and fill_filter).
