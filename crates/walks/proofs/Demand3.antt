@@ -2,7 +2,7 @@
 use mathlib.Core.Path.{_≡_, refl, sym, ap, _∙_, subst}
 use mathlib.Core.Logic.{_⊎_, inl, inr}
 use mathlib.Core.Bool.{true, false, not}
-use mathlib.Core.List.{List, [], _∷_, _++_, map, append-assoc}
+use mathlib.Core.List.{List, [], _∷_, _++_, map, append-assoc, append-nil}
 use Prim.Native.Nat.{ℕ, suc, _+_, _<_, _≤_}
 use native.Mathlib.Omega.{arith}
 use lib.ListN.{length, getD}
@@ -36,10 +36,6 @@ use Rattle.walks.proofs.Sides.{sorted-within}
 use Rattle.walks.proofs.Filled.{SameLengths, comesTo, Filled, Next, first, next, root-clean, root-nodes}
 
 -- ---- filling
-
-append-nil : {A : Type 0} (l : List A) → l ++ [] ≡ l
-append-nil [] = refl
-append-nil {A} (x ∷ l) = ap (λ (k : List A). x ∷ k) (append-nil l)
 
 -- the rest is inserted: the tree then holds m, the root, and the held ones
 record Ended (m : Numbered) (held rest : List Numbered) (t : Bare) : Type 0 where
