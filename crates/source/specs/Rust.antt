@@ -35,6 +35,9 @@ array x y z = record { x = x; y = y; z = z }
 abbrev pub index : List Float → ℕ → Float
 index s i = getD s i nan
 
+-- f32's `abs`, `min`, `max`, `clamp` and `ceil() as i32` are those of the crate floats. Where `min` and `max` meet +0 and -0, Rust leaves the sign open:
+-- they keep the earlier, as document 01 reads them. `sqrt` is IEEE 754's squareRoot, the crate root's `rootOf`. An index past the end, where the Rust would
+-- panic, is never met: the theorems' lists are long enough.
 -- `x.powi(2)` is one product
 abbrev pub powi2 : Float → Float
 powi2 x = mul binary32 x x
