@@ -119,3 +119,104 @@ sofa_found sofa_tree_nearest(
     const uint16_t *right, size_t right_count,
     const uint16_t *numbers, size_t numbers_count,
     float x, float y, float z);
+
+/* ---- a set */
+
+/*
+ * Makes a set ready. kind is SOFA_CARTESIAN or SOFA_SPHERICAL; positions are exactly 3m values, responses at least m*r*n (receivers within
+ * measurements). Lent for work, at least: left and right m each, neighbours 6m, cartesian 3m.
+ *
+ * Refused 1 to 6, in that order; nothing is written then, and the lookup is all +0. Otherwise cartesian holds the positions in its first
+ * 3m values (copied, or converted from spherical), left and right the links of the tree in their first m entries, neighbours the six
+ * neighbours of each measurement in its first 6m, each SOFA_ABSENT or a measurement: azimuth +, -, elevation +, -, radius +, -. Past these
+ * lengths nothing is written; positions and responses are only read. Keep the lookup and the four lists: the queries go by them. A load
+ * never answers 9.
+ */
+sofa_loaded sofa_load(
+    uint32_t kind, sofa_sizes sizes,
+    const float *positions, size_t positions_count,
+    const float *responses, size_t responses_count,
+    float angle_step, float radius_step, float rate,
+    uint16_t *left, size_t left_count,
+    uint16_t *right, size_t right_count,
+    uint16_t *neighbours, size_t neighbours_count,
+    float *cartesian, size_t cartesian_count);
+
+/*
+ * The number of the measurement nearest to a point, which is first drawn to the measured radii. At least: cartesian 3m, left and right m
+ * each. Refused 2, 3, 7 and, where a bad link is met on the way, 9; the number is SOFA_ABSENT then.
+ *
+ * sofa_find_mut leaves the point drawn to the measured radii in coordinates, three values; refused, they stay.
+ */
+sofa_found sofa_find(
+    sofa_sizes sizes, sofa_lookup lookup,
+    const float *cartesian, size_t cartesian_count,
+    const uint16_t *left, size_t left_count,
+    const uint16_t *right, size_t right_count,
+    float x, float y, float z);
+sofa_found sofa_find_mut(
+    sofa_sizes sizes, sofa_lookup lookup,
+    const float *cartesian, size_t cartesian_count,
+    const uint16_t *left, size_t left_count,
+    const uint16_t *right, size_t right_count,
+    float *coordinates);
+
+/*
+ * The filter at a point, to out_left and out_right. At least: cartesian 3m, left and right m each, neighbours 6m, responses m*r*n; delays
+ * and the outputs may have any length. Delays are in samples there and in seconds in the answer: m of them are one per measurement for
+ * both ears, else m*r or more are per measurement and receiver, else r or more are the first two for all, else there is no delay.
+ *
+ * An output holds the first n samples, or as many as it has room for, and +0 in the rest. Refused 2, 3, 6, 7 and, where a bad link or a bad
+ * neighbour is met on the way, 9: every sample of both outputs is +0 then.
+ */
+sofa_filtered sofa_filter(
+    sofa_sizes sizes, sofa_lookup lookup,
+    const float *cartesian, size_t cartesian_count,
+    const uint16_t *left, size_t left_count,
+    const uint16_t *right, size_t right_count,
+    const uint16_t *neighbours, size_t neighbours_count,
+    const float *responses, size_t responses_count,
+    const float *delays, size_t delays_count,
+    float rate, float x, float y, float z,
+    float *out_left, size_t out_left_count,
+    float *out_right, size_t out_right_count);
+
+/* The same without the blend: the nearest measurement as it is, always exact. It is given no neighbours. */
+sofa_filtered sofa_filter_nointerp(
+    sofa_sizes sizes, sofa_lookup lookup,
+    const float *cartesian, size_t cartesian_count,
+    const uint16_t *left, size_t left_count,
+    const uint16_t *right, size_t right_count,
+    const float *responses, size_t responses_count,
+    const float *delays, size_t delays_count,
+    float rate, float x, float y, float z,
+    float *out_left, size_t out_left_count,
+    float *out_right, size_t out_right_count);
+
+/* A measurement's filter by its number, always exact. Responses at least m*r*n. Refused 2, 3, 6, 8; the outputs are as above. */
+sofa_filtered sofa_filter_number(
+    sofa_sizes sizes,
+    const float *responses, size_t responses_count,
+    const float *delays, size_t delays_count,
+    float rate, size_t number,
+    float *out_left, size_t out_left_count,
+    float *out_right, size_t out_right_count);
+
+/*
+ * Where a measurement's taps for the left or the right ear stand in responses, which are at least m*r*n: `count` (n) taps from `start` on.
+ * Refused 2, 3, 8; the part is empty then, start and count 0.
+ */
+sofa_part sofa_left_response(sofa_sizes sizes, const float *responses, size_t responses_count, size_t number);
+sofa_part sofa_right_response(sofa_sizes sizes, const float *responses, size_t responses_count, size_t number);
+
+/* A measurement's six entries as they stand in neighbours, which are at least 6m. Refused 2, 3, 8; each is SOFA_ABSENT then. */
+sofa_neighbors sofa_neighbors_of(sofa_sizes sizes, const uint16_t *neighbours, size_t neighbours_count, size_t number);
+
+/* The longest delay in seconds, from +0 on, passing over NaN; any count. Refused 6; the value is +0 then. */
+sofa_value sofa_max_delay(const float *delays, size_t delays_count, float rate);
+
+#ifdef __cplusplus
+}
+#endif
+
+#endif

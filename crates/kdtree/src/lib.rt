@@ -56,6 +56,7 @@ fn beyond(sum: f32, min: f32, max: f32, q: f32) -> f32
 
 // ---- the box
 
+#[repr(C)]
 pub struct BoundingBox {
     pub min_x: f32,
     pub min_y: f32,

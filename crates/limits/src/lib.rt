@@ -18,7 +18,8 @@ ghost use lib.ListN.{length};
 ghost use Rattle.limits.specs.Allowed.{between, sizesOk, treeFits, responsesFit, neighboursFit, plainFits, blendFits, loadFits, kindOk, positionOk, firstBad, angleStepOk, radiusStepOk, rateOk};
 ghost use Rattle.limits.specs.Refusals.{verdictOf, reasonOf, placeOf, badRate, badNumber, queryLines, contentLines, loadLines, findLines, filterLines, numberLines, ratedLines, rateLines, valueLines};
 
-// M measurements, C coordinates, R receivers, N taps.
+// M measurements, C coordinates, R receivers, N taps. Hosts hand it over as it stands, as they do the box and the lookup.
+#[repr(C)]
 pub struct Sizes {
     pub m: usize,
     pub c: usize,

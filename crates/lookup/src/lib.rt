@@ -23,6 +23,7 @@ ghost use Rattle.lookup.specs.Lookup.{scaled, clampedBy, locatedAs, loca
 ghost use Rattle.kdtree.specs.Nearest.{placeOf};
 
 // Azimuth phi and elevation theta in degrees.
+#[repr(C)]
 pub struct Lookup {
     pub bounds: BoundingBox,
     pub phi_min: f32,

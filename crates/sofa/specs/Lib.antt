@@ -1,2 +1,4 @@
 pub mod Border
 pub mod Tree
+pub mod Convert
+pub mod Set

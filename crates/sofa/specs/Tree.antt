@@ -10,19 +10,12 @@ use Rattle.kdtree.specs.declared.Named.{Named}
 use Rattle.kdtree.specs.declared.Named.the-variants as named
 use Rattle.kdtree.specs.Insert.{Lists, Stored, insertOf}
 use Rattle.kdtree.specs.Nearest.{nearestOf}
-use Rattle.sofa.specs.declared.tree.SofaBox.{SofaBox}
 use Rattle.sofa.specs.declared.tree.SofaInserted.{SofaInserted}
 use Rattle.sofa.specs.declared.tree.SofaFound.{SofaFound}
 
-abbrev pub boxIn : SofaBox → BoundingBox
-boxIn b = record { «min_x» = b .«min_x»; «min_y» = b .«min_y»; «min_z» = b .«min_z»; «max_x» = b .«max_x»; «max_y» = b .«max_y»; «max_z» = b .«max_z» }
-
-abbrev pub boxOut : BoundingBox → SofaBox
-boxOut b = record { «min_x» = b .«min_x»; «min_y» = b .«min_y»; «min_z» = b .«min_z»; «max_x» = b .«max_x»; «max_y» = b .«max_y»; «max_z» = b .«max_z» }
-
 -- the new box, with reason 0; a refusal has its number and place, and +0 for each corner
 abbrev pub insertedAs : Inserted → SofaInserted
-insertedAs (inserted.Done b) = record { reason = 0; place = 0; bounds = boxOut b }
+insertedAs (inserted.Done b) = record { reason = 0; place = 0; bounds = b }
 insertedAs (inserted.Refused n p) =
     record { reason = n; place = p; bounds = record { «min_x» = zero32; «min_y» = zero32; «min_z» = zero32; «max_x» = zero32; «max_y» = zero32; «max_z» = zero32 } }
 
@@ -46,8 +39,8 @@ leftBy o a = record { out = o; lists = a }
 abbrev pub told : Stored → Left
 told s = record { out = insertedAs (s .out); lists = s .lists }
 
-abbrev pub insertSays : Lists → ℕ → SofaBox → Float → Float → Float → ℕ → Left
-insertSays a c b x y z number = told (insertOf a c (boxIn b) (point x y z) number)
+abbrev pub insertSays : Lists → ℕ → BoundingBox → Float → Float → Float → ℕ → Left
+insertSays a c b x y z number = told (insertOf a c b (point x y z) number)
 
-abbrev pub nearestSays : Lists → ℕ → SofaBox → Float → Float → Float → SofaFound
-nearestSays a c b x y z = foundAs (nearestOf a c (boxIn b) (point x y z))
+abbrev pub nearestSays : Lists → ℕ → BoundingBox → Float → Float → Float → SofaFound
+nearestSays a c b x y z = foundAs (nearestOf a c b (point x y z))

@@ -2,13 +2,16 @@
 //
 // An enum does not cross the border, so each answer is a struct of numbers. Reason 0 means that
 // nothing was refused; any other is document 01's number, with its place. The definitions in specs/
-// say what stands for each case: Border for the angles, Tree for the bare tree (tree.rt).
+// say what stands for each case: Border for the angles, Tree for the bare tree (tree.rt), Convert for
+// the conversions (convert.rt), Set for a set (set.rt).
 ghost use mathlib.Core.Path.{_≡_};
 ghost use Rattle.root.specs.Root.{rootOf};
 ghost use Rattle.angles.specs.Says.{sineSays, cosineSays, arctanSays};
 ghost use Rattle.sofa.specs.Border.{valueOf};
 use angles::Answer;
 
+mod convert;
+mod set;
 mod tree;
 
 #[repr(C)]

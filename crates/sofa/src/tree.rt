@@ -5,23 +5,13 @@ use kdtree::Named;
 use points::Point3;
 ghost use mathlib.Core.Path.{_≡_};
 ghost use Rattle.kdtree.specs.Insert.{listsOf};
-ghost use Rattle.sofa.specs.Tree.{boxIn, boxOut, insertedAs, foundAs, leftBy, insertSays, nearestSays};
-
-#[repr(C)]
-pub struct SofaBox {
-    pub min_x: f32,
-    pub min_y: f32,
-    pub min_z: f32,
-    pub max_x: f32,
-    pub max_y: f32,
-    pub max_z: f32,
-}
+ghost use Rattle.sofa.specs.Tree.{insertedAs, foundAs, leftBy, insertSays, nearestSays};
 
 #[repr(C)]
 pub struct SofaInserted {
     pub reason: u32,
     pub place: usize,
-    pub bounds: SofaBox,
+    pub bounds: BoundingBox,
 }
 
 // The number is 65535 where there is none.
@@ -32,32 +22,6 @@ pub struct SofaFound {
     pub number: u16,
 }
 
-fn box_in(b: SofaBox) -> BoundingBox
-    ensures { λ r. ⌜ r ≡ boxIn b ⌝ }
-{
-    BoundingBox {
-        min_x: b.min_x,
-        min_y: b.min_y,
-        min_z: b.min_z,
-        max_x: b.max_x,
-        max_y: b.max_y,
-        max_z: b.max_z,
-    }
-}
-
-fn box_out(b: BoundingBox) -> SofaBox
-    ensures { λ r. ⌜ r ≡ boxOut b ⌝ }
-{
-    SofaBox {
-        min_x: b.min_x,
-        min_y: b.min_y,
-        min_z: b.min_z,
-        max_x: b.max_x,
-        max_y: b.max_y,
-        max_z: b.max_z,
-    }
-}
-
 fn inserted(a: Inserted) -> SofaInserted
     ensures { λ r. ⌜ r ≡ insertedAs a ⌝ }
 {
@@ -65,12 +29,12 @@ fn inserted(a: Inserted) -> SofaInserted
         Inserted::Done(b) => SofaInserted {
             reason: 0,
             place: 0,
-            bounds: box_out(b),
+            bounds: b,
         },
         Inserted::Refused(n, p) => SofaInserted {
             reason: n,
             place: p,
-            bounds: SofaBox {
+            bounds: BoundingBox {
                 min_x: 0.0,
                 min_y: 0.0,
                 min_z: 0.0,
@@ -107,7 +71,7 @@ fn found(a: Named) -> SofaFound
 #[no_mangle]
 pub extern "C" fn sofa_tree_insert(
     count: usize,
-    bounds: SofaBox,
+    bounds: BoundingBox,
     positions: &mut [f32],
     left: &mut [u16],
     right: &mut [u16],
@@ -121,14 +85,13 @@ pub extern "C" fn sofa_tree_insert(
         ≡ insertSays (listsOf (now (positions .entry)) (now (left .entry)) (now (right .entry)) (now (numbers .entry))) count bounds x y z number ⌝ }
 {
     let p = Point3 { x: x, y: y, z: z };
-    let b = box_in(bounds);
-    inserted(kdtree::insert(count, b, positions, left, right, numbers, p, number))
+    inserted(kdtree::insert(count, bounds, positions, left, right, numbers, p, number))
 }
 
 #[no_mangle]
 pub extern "C" fn sofa_tree_nearest(
     count: usize,
-    bounds: SofaBox,
+    bounds: BoundingBox,
     positions: &[f32],
     left: &[u16],
     right: &[u16],
@@ -140,6 +103,5 @@ pub extern "C" fn sofa_tree_nearest(
     ensures { λ r. ⌜ r ≡ nearestSays (listsOf (now (positions .entry)) (now (left .entry)) (now (right .entry)) (now (numbers .entry))) count bounds x y z ⌝ }
 {
     let q = Point3 { x: x, y: y, z: z };
-    let b = box_in(bounds);
-    found(kdtree::nearest(count, b, positions, left, right, numbers, q))
+    found(kdtree::nearest(count, bounds, positions, left, right, numbers, q))
 }

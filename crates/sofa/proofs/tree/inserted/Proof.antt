@@ -9,18 +9,15 @@ use Rattle.sofa.proofs.tree.inserted.Tie as tie
 enum-known-a : tie.Need-enum-known-a
 enum-known-a c = search needs
 
-box-out-requires : tie.Need-box-out-requires
-box-out-requires c κs = search needs
-
 enum-known-a-2 : tie.Need-enum-known-a-2
 enum-known-a-2 c = search needs
 
 returns : tie.Need-returns
-returns c = simp (c .box-out .ensures) (sym (ap insertedAs (c .before .before .a .given .1)))
+returns c = sym (ap insertedAs (c .before .a .given .1))
 
 returns-2 : tie.Need-returns-2
 unfolding ofBits
 returns-2 c = sym (ap insertedAs (c .before .a2 .given .1))
 
 pub inserted-spec : {M : Type 1} → statement M
-inserted-spec = tie.close (tie.spec enum-known-a box-out-requires enum-known-a-2 returns returns-2)
+inserted-spec = tie.close (tie.spec enum-known-a enum-known-a-2 returns returns-2)

@@ -6,9 +6,6 @@ use borrow.Author.Needs.{needs}
 use Rattle.sofa.proofs.tree.sofa_tree_insert.Statement.{statement}
 use Rattle.sofa.proofs.tree.sofa_tree_insert.Tie as tie
 
-box-in-requires : tie.Need-box-in-requires
-box-in-requires c κs = search needs
-
 insert-requires : tie.Need-insert-requires
 insert-requires c κs = search needs
 
@@ -29,14 +26,14 @@ same-length-4 c = search needs
 
 returns : tie.Need-returns
 returns c =
-    let a = c .before .before .before .before .before .before .before .before .before .before .before .before .before .before .before .before .before .before .before .args in
-    insert-across (listsOf (now (a .positions)) (now (a .left)) (now (a .right)) (now (a .numbers))) (a .count) (a .bounds) (a .x) (a .y) (a .z) (c .before .before .before .before .before .before .before .before .before .before .before .before .before .before .box-in .result) (c .before .before .before .before .before .before .before .before .before .before .before .before .before .before .box-in .ensures) (a .number) (c .before .before .before .before .before .before .before .before .before .insert .result) _ (c .inserted .result) (c .inserted .ensures) (c .before .before .before .before .before .before .before .before .before .insert .ensures)
+    let a = c .before .before .before .before .before .before .before .before .before .before .before .before .before .before .before .before .before .before .args in
+    let i = c .before .before .before .before .before .before .before .before .before .insert in
+    insert-across (listsOf (now (a .positions)) (now (a .left)) (now (a .right)) (now (a .numbers))) (a .count) (a .bounds) (a .x) (a .y) (a .z) (a .number) (i .result) _ (c .inserted .result) (c .inserted .ensures) (i .ensures)
 
 pub sofa-tree-insert-spec : {M : Type 1} → statement M
 sofa-tree-insert-spec =
     tie.close
     (tie.spec
-    box-in-requires
     insert-requires
     inserted-requires
     same-length

@@ -6,9 +6,6 @@ use borrow.Author.Needs.{needs}
 use Rattle.sofa.proofs.tree.sofa_tree_nearest.Statement.{statement}
 use Rattle.sofa.proofs.tree.sofa_tree_nearest.Tie as tie
 
-box-in-requires : tie.Need-box-in-requires
-box-in-requires c κs = search needs
-
 nearest-requires : tie.Need-nearest-requires
 nearest-requires c κs = search needs
 
@@ -17,9 +14,10 @@ found-requires c κs = search needs
 
 returns : tie.Need-returns
 returns c =
-    let a = c .before .before .before .before .before .before .before .args in
-    nearest-across (listsOf (now (a .positions)) (now (a .left)) (now (a .right)) (now (a .numbers))) (a .count) (a .bounds) (a .x) (a .y) (a .z) (c .before .before .box-in .result) (c .before .before .box-in .ensures) (c .before .nearest .result) (c .found .result) (c .found .ensures) (c .before .nearest .ensures)
+    let a = c .before .before .before .before .before .before .args in
+    let n = c .before .nearest in
+    nearest-across (listsOf (now (a .positions)) (now (a .left)) (now (a .right)) (now (a .numbers))) (a .count) (a .bounds) (a .x) (a .y) (a .z) (n .result) (c .found .result) (c .found .ensures) (n .ensures)
 
 pub sofa-tree-nearest-spec : {M : Type 1} → statement M
 sofa-tree-nearest-spec =
-    tie.close (tie.spec box-in-requires nearest-requires found-requires returns)
+    tie.close (tie.spec nearest-requires found-requires returns)

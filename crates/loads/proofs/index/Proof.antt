@@ -1,0 +1,32 @@
+-- `loads::index` meets its contract. Assumes nothing.
+use denote.Ref.{now}
+use Rattle.loads.proofs.Ways.{is-indexed}
+use borrow.Author.Needs.{needs}
+use Rattle.loads.proofs.index.Statement.{statement}
+use Rattle.loads.proofs.index.Tie as tie
+
+new-requires : tie.Need-new-requires
+new-requires c κs = search needs
+
+fill-neighbors-requires : tie.Need-fill-neighbors-requires
+fill-neighbors-requires c κs = search needs
+
+same-length : tie.Need-same-length
+same-length c = search needs
+
+same-length-2 : tie.Need-same-length-2
+same-length-2 c = search needs
+
+same-length-3 : tie.Need-same-length-3
+same-length-3 c = search needs
+
+returns : tie.Need-returns
+returns c =
+    let a = c .before .before .before .before .before .before .before .before .before .before .before .before .before .before .before .before .before .args in
+    let h = c .before .before .before .before .before .before .before .before .before .before .before .before .before .before .before .before .before .pre in
+    is-indexed (a .m) (a .angle-step) (a .radius-step) (now (a .left)) (now (a .right)) (now (a .neighbours)) (now (a .cartesian)) (record { some = h .0; most = h .1; positions = h .2; left = h .3; right = h .4 }) (h .5) (c .before .before .before .before .before .before .before .before .before .before .new .result) _ _ _ (c .before .before .fill-neighbors .result) (c .before .before .before .before .before .before .before .before .before .before .new .ensures) (c .before .before .fill-neighbors .ensures)
+
+pub index-spec : {M : Type 1} → statement M
+index-spec =
+    tie.close
+    (tie.spec new-requires fill-neighbors-requires same-length same-length-2 same-length-3 returns)
