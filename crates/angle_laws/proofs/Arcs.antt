@@ -1,4 +1,4 @@
--- The arctangent of every finite (y, x) with y not zero: the steps answer an `IsArc`.
+-- The arctangent of every finite (y, x) with y not zero: the steps answer an `IsArc`. Assumes nothing.
 use mathlib.Core.Path.{refl, sym, subst, _≡_, _∙_, subst₂}
 use mathlib.Core.Bool.{Bool, true, false, cond, Bool·beq}
 use Prim.Native.Nat.{ℕ, _*_, _+_, _≤_, _<_, max, zero-le, zero, suc}

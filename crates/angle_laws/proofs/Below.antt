@@ -1,4 +1,4 @@
--- A test that passes at every number below a numeral, computed once.
+-- A test that passes at every number below a numeral, computed once. Assumes nothing.
 use mathlib.Core.Bool.{Bool, true, _&&_}
 use Prim.Native.Nat.{ℕ, zero, suc, _<_}
 use mathlib.Core.Path.{subst, sym}

@@ -1,4 +1,4 @@
--- What the certificate of a guessed angle gives: the angle lies on the line through (x, y), on the right side. Over whole numbers, then for each quarter turn.
+-- What the certificate of a guessed angle gives: the angle lies on the line through (x, y), on the right side. Over whole numbers, then for each quarter turn. Assumes nothing.
 use Prim.Native.Nat.{ℕ, _+_, _*_, _≤_, _<_, max, zero, suc, _-_, _%_}
 use native.Mathlib.Nat.{mul-le-mul-right, mul-assoc, mul-comm, mul-pos, le-of-lt}
 use native.Mathlib.Omega.{arith}

@@ -1,4 +1,4 @@
--- The fixed-point sine and cosine of an angle A / 2^34 that is within e / 2^34 of R / D are near the series of R / D: the whole numeric core, for any e.
+-- The fixed-point sine and cosine of an angle A / 2^34 that is within e / 2^34 of R / D are near the series of R / D: the whole numeric core, for any e. Assumes nothing.
 use Prim.Native.Nat.{ℕ, _+_, _*_, _≤_, _/_}
 use native.Mathlib.Omega.{arith}
 use mathlib.Core.Path.{refl, sym, subst₂}
@@ -6,7 +6,7 @@ use native.Mathlib.Nat.{mul-le-mul-left, mul-le-mul-right, div-mul-le-self}
 use lib.Dec.{lit<}
 use Rattle.angles.specs.Steps as steps
 use Rattle.angle_laws.specs.Series.{sinTop, sinBot, cosTop, cosBot, bot, top}
-use Rattle.angles.specs.Steps.{nest, sinDivs, cosDivs, sinFix, sinFine, cosFix}
+use Rattle.angles.specs.Steps.{nest, sinDivs, cosDivs, sinFix, cosFix}
 use Rattle.angle_laws.proofs.Horner.{Square, Close, nested}
 use Rattle.angle_laws.proofs.Parts.{Angle, Sine, square, product}
 use Rattle.angle_laws.proofs.Nested.{sin-nested, cos-nested, sin-bot, cos-bot}
@@ -15,20 +15,6 @@ use Rattle.angle_laws.proofs.Nested.{sin-nested, cos-nested, sin-bot, c
 pub record Near (a N Q z : ℕ) : Type 0 where
   pub low : a * Q ≤ 2147483648 * N + z * Q
   pub high : 2147483648 * N ≤ a * Q + z * Q
-
--- the same in units of 2^-39
-pub record Fine (a N Q z : ℕ) : Type 0 where
-  pub low : a * Q ≤ 549755813888 * N + z * Q
-  pub high : 549755813888 * N ≤ a * Q + z * Q
-
-pub finer : (a N Q z : ℕ) → Near a N Q z → Fine (256 * a) N Q (256 * z)
-finer a N Q z n = record { low = lo (n .low); high = hi (n .high) }
-  where
-    lo : a * Q ≤ 2147483648 * N + z * Q → 256 * a * Q ≤ 549755813888 * N + 256 * z * Q
-    lo h = omega arith
-
-    hi : 2147483648 * N ≤ a * Q + z * Q → 549755813888 * N ≤ 256 * a * Q + 256 * z * Q
-    hi h = omega arith
 
 module _ (A D R e h w : ℕ) (ab : A ≤ 17179869184) (rd : R ≤ D) (eh : e + 4 ≤ 4 * h) (hw : h ≤ 2 * w) (an : Angle 17179869184 A D R e) where
   quarter : Angle 4294967296 (A / 4) D R h
@@ -95,26 +81,4 @@ module _ (A D R e h w : ℕ) (ab : A ≤ 17179869184) (rd : R ≤ D) (eh : e + 4
           a f x y = omega arith
 
           b : (w + 3) * rq ≤ (w + 3) * W → (16 * (w + 3) + e + 8) * W ≤ 8 * z * W → 8589934592 * 2147483648 * N ≤ 8589934592 * s * W + 8589934592 * W + (17179869184 * (w + 3) * rq + e * 1073741824 * W) → 2147483648 * N ≤ s * W + z * W
-          b f x y = omega arith
-
-  pub fined : Sine 33554432 549755813888 (sinFine A) D R (bot (D * D) sinDivs) (top (R * R) (D * D) sinDivs) (17179869184 * (w + 3) * (R * bot (D * D) sinDivs) + e * 1073741824 * (D * bot (D * D) sinDivs))
-  unfolding sinFine
-  fined = product 17179869184 A D R e 1073741824 (nest 1073741824 (steps.square A) sinDivs) (bot (D * D) sinDivs) (top (R * R) (D * D) sinDivs) (w + 3) 33554432 549755813888 (lit< tt) refl an closeS
-
-  pub fine-sin : (z : ℕ) → 512 * (w + 3) + 32 * e + 1 ≤ z → Fine (sinFine A) (sinTop R D) (sinBot D) z
-  fine-sin z hz = subst₂ (λ (t b : ℕ). Fine (sinFine A) t b z) (sym (sin-nested R D rd)) (sym (sin-bot D))
-      (go (sinFine A) (D * bot (D * D) sinDivs) (R * top (R * R) (D * D) sinDivs) _ (mul-le-mul-right (bot (D * D) sinDivs) rd) (mul-le-mul-right (D * bot (D * D) sinDivs) hz) (fined .low) (fined .high))
-    where
-      go : (s W N rq : ℕ) → rq ≤ W → (512 * (w + 3) + 32 * e + 1) * W ≤ z * W
-          → 33554432 * s * W ≤ 33554432 * 549755813888 * N + (17179869184 * (w + 3) * rq + e * 1073741824 * W)
-          → 33554432 * 549755813888 * N ≤ 33554432 * s * W + 33554432 * W + (17179869184 * (w + 3) * rq + e * 1073741824 * W)
-          → Fine s N W z
-      go s W N rq r x y u =
-          let f : (w + 3) * rq ≤ (w + 3) * W = mul-le-mul-left (w + 3) r in
-          record { low = a f x y; high = b f x u }
-        where
-          a : (w + 3) * rq ≤ (w + 3) * W → (512 * (w + 3) + 32 * e + 1) * W ≤ z * W → 33554432 * s * W ≤ 33554432 * 549755813888 * N + (17179869184 * (w + 3) * rq + e * 1073741824 * W) → s * W ≤ 549755813888 * N + z * W
-          a f x y = omega arith
-
-          b : (w + 3) * rq ≤ (w + 3) * W → (512 * (w + 3) + 32 * e + 1) * W ≤ z * W → 33554432 * 549755813888 * N ≤ 33554432 * s * W + 33554432 * W + (17179869184 * (w + 3) * rq + e * 1073741824 * W) → 549755813888 * N ≤ s * W + z * W
           b f x y = omega arith

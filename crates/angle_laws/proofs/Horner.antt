@@ -1,11 +1,11 @@
 -- The nested form in fixed point stays within E units of the exact one: one step, and then every list of divisors from 2 up.
 -- Each nonlinear fact is one product of an order with a factor, brought into a fixed order of factors by `omega` in a lemma of its own
--- (omega multiplies out, but stops at a bound of its own where many products are in reach); the glue is then linear over named numbers.
+-- (omega multiplies out, but stops at a bound of its own where many products are in reach); the glue is then linear over named numbers. Assumes nothing.
 use Prim.Native.Nat.{ℕ, _*_, _/_, _≤_, _+_, _<_, _-_}
 use native.Mathlib.Nat.{le-trans, mul-le-mul-right, div-mul-le-self, lt-div-mul-add, mul-le-mul-left, le-of-mul-le-mul-left, le-of-eq, one-mul, sub-le, div-le-of-le-mul, mul-le-mul, div-le-self, le-refl}
 use native.Mathlib.Omega.{arith}
 use mathlib.Core.Path.{_≡_, subst, sym, ap}
-use mathlib.Core.List.{List, [], _∷_}
+use mathlib.Core.List.{List, _∷_, []}
 use mathlib.Core.Bool.{Bool, true, _&&_}
 use lib.Dec.{leb, leb→le}
 use lib.Ieee.Fits.{and-l, and-r}

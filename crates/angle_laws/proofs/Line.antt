@@ -1,4 +1,4 @@
--- The found angle lies on the line through (x, y), on the right side: for each eighth and each sign.
+-- The found angle lies on the line through (x, y), on the right side: for each eighth and each sign. Assumes nothing.
 use mathlib.Core.Path.{sym, subst, _≡_, ap, _∙_, subst₂}
 use Prim.Native.Nat.{ℕ, zero, suc, _^_, _<_, _*_, _≤_, _+_, max}
 use native.Mathlib.Nat.{mul-pos, pow-zero, pow-suc, le-trans, mul-assoc, mul-comm, mul-le-mul-right}

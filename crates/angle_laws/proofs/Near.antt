@@ -1,15 +1,13 @@
--- Sine and cosine of every float from -16 to 16: the steps answer within 2^-20 of S and C.
+-- Sine and cosine of every f32 from -16 to 16: the steps answer within 2^-20 of S and C. Assumes nothing.
 use mathlib.Core.Path.{_≡_, refl, sym, subst, subst₂}
 use mathlib.Core.Bool.{Bool, true, false, cond}
 use Prim.Native.Nat.{_*_}
 use lib.Dec.{T}
-use lib.IntN.{pos}
-use lib.Ieee.{Float, fin, binary32, up, down, lt, fits}
+use lib.Ieee.{Float, binary32, up, down, lt, fits}
 use lib.Ieee.Fits.{down-pos}
-use Rattle.angles.proofs.Whole.{fix-of, flip}
-use Rattle.angle_laws.specs.Angle.{S, C, within}
-use Rattle.angles.specs.Sines.{small, plusZero, inRange, absf, toFix, sinFrom, cosFrom, sineSteps, cosineSteps}
-use Rattle.angles.proofs.Range.{large, little}
+use Rattle.angles.specs.Sines.{plusZero, one, small, inRange, absf, sinFrom, cosFrom, sineSteps, cosineSteps}
+use Rattle.angle_laws.specs.Angle.{S, C, sine, cosine, within}
+use Rattle.angle_laws.proofs.Cases.{large, little}
 use Rattle.angle_laws.proofs.Chosen.{sin-from, cos-from}
 use Rattle.angle_laws.proofs.Small.{sine-small, cosine-small}
 
@@ -18,26 +16,24 @@ module _ (x : Float) (f : T (fits binary32 x)) (r : T (inRange x)) where
   unfolding sineSteps S within
   sine-near = go (lt (absf x) small) refl
     where
-      go : (b : Bool) → lt (absf x) small ≡ b → within 1048576 (cond b x (flip (lt x plusZero) (sinFrom (toFix (absf x)) (absf x)))) (S x)
+      go : (b : Bool) → lt (absf x) small ≡ b → within 1048576 (cond b x (sinFrom (lt x plusZero) (absf x))) (S x)
       go true q =
           let l = little x r q in
           subst (λ (y : Float). within 1048576 y (S y)) (sym (l .is)) (sine-small (l .m * up (l .e)) (down (l .e)) (down-pos (l .e)) (l .lo) (l .s))
       go false q =
           let l = large x f r q in
-          let w = fix-of x l in
-          subst₂ (λ (b : Bool) (y : Float). within 1048576 (flip b (sinFrom (toFix (absf x)) (absf x))) (S y)) (sym (l .sgn)) (sym (l .is))
-          (sin-from (l .s) (l .m * up (l .e)) (down (l .e)) (toFix (absf x)) (down-pos (l .e)) (w .is) (w .small) (absf x))
+          subst₂ (λ (b : Bool) (y : Float). within 1048576 (sinFrom b (absf x)) (S y)) (sym (l .sgn)) (sym (l .is))
+          (subst (λ (y : Float). within 1048576 (sinFrom (l .s) y) (sine (l .s) (l .m * up (l .e)) (down (l .e)))) (sym (l .abs)) (sin-from (l .m) (l .e) (l .fit) (l .hi) (l .s)))
 
   pub cosine-near : within 1048576 (cosineSteps x) (C x)
   unfolding cosineSteps C within
   cosine-near = go (lt (absf x) small) refl
     where
-      go : (b : Bool) → lt (absf x) small ≡ b → within 1048576 (cond b (fin false 1 (pos 0)) (cosFrom (toFix (absf x)) (absf x))) (C x)
+      go : (b : Bool) → lt (absf x) small ≡ b → within 1048576 (cond b one (cosFrom (absf x))) (C x)
       go true q =
           let l = little x r q in
-          subst (λ (y : Float). within 1048576 (fin false 1 (pos 0)) (C y)) (sym (l .is)) (cosine-small (l .m * up (l .e)) (down (l .e)) (down-pos (l .e)) (l .lo) (l .s))
+          subst (λ (y : Float). within 1048576 one (C y)) (sym (l .is)) (cosine-small (l .m * up (l .e)) (down (l .e)) (down-pos (l .e)) (l .lo) (l .s))
       go false q =
           let l = large x f r q in
-          let w = fix-of x l in
-          subst (λ (y : Float). within 1048576 (cosFrom (toFix (absf x)) (absf x)) (C y)) (sym (l .is))
-          (cos-from (l .s) (l .m * up (l .e)) (down (l .e)) (toFix (absf x)) (down-pos (l .e)) (w .is) (w .small) (absf x))
+          subst (λ (y : Float). within 1048576 (cosFrom (absf x)) (C y)) (sym (l .is))
+          (subst (λ (y : Float). within 1048576 (cosFrom y) (cosine (l .s) (l .m * up (l .e)) (down (l .e)))) (sym (l .abs)) (cos-from (l .m) (l .e) (l .fit) (l .hi) (l .s)))

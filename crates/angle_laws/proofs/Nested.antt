@@ -1,8 +1,8 @@
--- The series of document 01 is the nested form: sinTop = R * top, sinBot = D * bot, cosTop = top, cosBot = bot, over squares.
+-- The series of document 01 is the nested form: sinTop = R * top, sinBot = D * bot, cosTop = top, cosBot = bot, over squares. Assumes nothing.
 use Prim.Native.Nat.{ℕ, zero, suc, _*_, _^_, _≤_, _+_, _-_, _/_}
 use mathlib.Core.Path.{_≡_, ap, _∙_, sym}
 use native.Mathlib.Nat.{pow-zero, pow-suc, le-refl, sub-le, le-trans, le-of-eq, one-mul, mul-le-mul-right, mul-le-mul}
-use mathlib.Core.List.{List, [], _∷_}
+use mathlib.Core.List.{List, _∷_, []}
 use lib.Dec.{T, leb, leb→le}
 use native.Mathlib.Omega.{arith}
 use lib.Ieee.Fits.{and-l, and-r}
@@ -11,15 +11,15 @@ use Rattle.angle_laws.proofs.Horner.{twos}
 use Rattle.angles.specs.Steps.{sinDivs, cosDivs}
 
 -- x * x * .. , which computes at a numeral
-abbrev pw : ℕ → ℕ → ℕ
+abbrev pub pw : ℕ → ℕ → ℕ
 pw x zero = 1
 pw x (suc n) = pw x n * x
 
-pw-is : (x n : ℕ) → x ^ n ≡ pw x n
+pub pw-is : (x n : ℕ) → x ^ n ≡ pw x n
 pw-is x zero = pow-zero x
 pw-is x (suc n) = pow-suc x n ∙ ap (λ (z : ℕ). z * x) (pw-is x n)
 
-term-is : (f R D i j : ℕ) → f * (R ^ i * D ^ j) ≡ f * (pw R i * pw D j)
+pub term-is : (f R D i j : ℕ) → f * (R ^ i * D ^ j) ≡ f * (pw R i * pw D j)
 term-is f R D i j = ap (λ (z : ℕ). f * (z * D ^ j)) (pw-is R i) ∙ ap (λ (z : ℕ). f * (pw R i * z)) (pw-is D j)
 
 -- ---- the nested form, one level at a time

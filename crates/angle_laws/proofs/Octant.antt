@@ -1,11 +1,11 @@
 -- The arctangent's heart, over whole numbers: t / 2^31 is near the ratio a / c ≤ 1 of the smaller side to the larger. A fixed-point sine and cosine near s and g (both at the same angle r)
--- that satisfy t cos ≥ 2^31 sin, and another pair, near the same s and g, that does not, bound |a g - c s| by 2^-18 c.
+-- that satisfy t cos ≥ 2^31 sin, and another pair, near the same s and g, that does not, bound |a g - c s| by 2^-18 c. Assumes nothing.
 use mathlib.Core.Path.{_≡_, refl, sym, subst, subst₂}
 use Prim.Native.Nat.{ℕ, _+_, _*_, _≤_, _-_, _/_, _<_}
 use native.Mathlib.Nat.{mul-le-mul-left, mul-le-mul-right, mul-le-mul, le-of-mul-le-mul-left, div-le-of-le-mul, le-trans, le-of-lt}
 use native.Mathlib.Omega.{arith}
 use lib.Dec.{lit<, lit≤}
-use mathlib.Core.List.{[], _∷_}
+use mathlib.Core.List.{_∷_, []}
 use mathlib.Core.Logic.{_⊎_, inl, inr}
 use Rattle.angles.proofs.Ratio.{P31, Slope}
 use Rattle.angle_laws.proofs.Fixed.{Near, near-sin, near-cos}

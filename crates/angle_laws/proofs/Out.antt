@@ -1,4 +1,4 @@
--- A whole number below 2^24 times 2^-(g+1) is exact, and the angle of each eighth is place o j / 2^24.
+-- A whole number below 2^24 times 2^-(g+1) is exact, and the angle of each eighth is place o j / 2^24. Assumes nothing.
 use Prim.Native.Nat.{ℕ, zero, suc, _+_, _-_, _*_, _/_, min, _≤_, _^_, _<_}
 use mathlib.Core.Path.{_≡_, sym, ap, _∙_, subst, refl}
 use native.Mathlib.Omega.{arith}

@@ -1,4 +1,4 @@
--- From a fixed-point angle to the square that `Horner.nested` takes, and from its result to the sine. Over any fraction R / D that the angle is near to.
+-- From a fixed-point angle to the square that `Horner.nested` takes, and from its result to the sine. Over any fraction R / D that the angle is near to. Assumes nothing.
 use Prim.Native.Nat.{ℕ, _+_, _*_, _≤_, _/_, _<_}
 use mathlib.Core.Path.{_≡_, sym, ap}
 use native.Mathlib.Nat.{mul-le-mul-left, mul-le-mul-right, le-trans, le-of-eq, mul-le-mul, le-of-mul-le-mul-left, div-mul-le-self, lt-div-mul-add, div-le-of-le-mul, mul-comm}

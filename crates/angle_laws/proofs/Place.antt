@@ -1,4 +1,4 @@
--- The angle that the arctangent answers, in its eighth: k, the sign of r, and r near j / 2^24.
+-- The angle that the arctangent answers, in its eighth: k, the sign of r, and r near j / 2^24. Assumes nothing.
 use mathlib.Core.Path.{_≡_, refl}
 use mathlib.Core.Logic.{_⊎_, inl, inr}
 use Prim.Native.Nat.{ℕ, suc, _+_, _*_, _≤_, _<_, zero}

@@ -1,4 +1,4 @@
--- The reduction: from X = x 2^40 and the eighth q of a turn in which it lies, to k, the sign of r and r itself.
+-- The reduction: from X = x 2^40 and the eighth q of a turn in which it lies, to k, the sign of r and r itself. Assumes nothing.
 use Prim.Native.Nat.{ℕ, suc, _*_, _<_, _+_, _≤_, _-_, _/_, _%_, zero, zero-le}
 use lib.Dec.{ltb, ltb→lt, leb, leb→le, lit≤, lit<, eqb}
 use mathlib.Core.Path.{_≡_, ap, sym, _∙_, subst, subst₂}
@@ -96,6 +96,16 @@ rest-proper n d k h = go (restTop k n d) (piTop * d) piBot h (mul-le-mul-right d
     go : (R x t : ℕ) → 2 * R ≤ x → x ≤ 4 * t * d → R ≤ 2 * t * d
     go R x t a b = omega arith
 
+-- |r| ≤ 0.786
+rest-under : (n d k : ℕ) → 2 * restTop k n d ≤ piTop * d → restTop k n d * 1000 ≤ 786 * restBot d
+rest-under n d k h = go (restTop k n d) (piTop * d) piBot h (le-trans (le-of-eq (swap piTop d)) (mul-le-mul-right {m = piTop * 1000} {n = 3144 * piBot} d (lit≤ tt)))
+  where
+    swap : (p d : ℕ) → p * d * 1000 ≡ p * 1000 * d
+    swap p d = omega arith
+
+    go : (R x t : ℕ) → 2 * R ≤ x → x * 1000 ≤ 3144 * t * d → R * 1000 ≤ 786 * (2 * t * d)
+    go R x t a b = omega arith
+
 -- ---- the fixed-point angle
 -- R48 / 2^48 within 2 / 2^48 of R / D
 cut : (R48 D R : ℕ) → R48 * D ≤ 281474976710656 * R + 2 * D → 281474976710656 * R ≤ R48 * D + 2 * D → Angle 17179869184 (R48 / 16384) D R 2
@@ -176,6 +186,7 @@ pub record Reduced (neg : Bool) (n d X q : ℕ) : Type 0 where
   pub sign : ltb (2 * piBot * n) (half q * (piTop * d)) ≡ odd q
   pub angle : Angle 17179869184 (rest q X) (restBot d) (restTop (half q) n d) 2
   pub proper : restTop (half q) n d ≤ restBot d
+  pub under : restTop (half q) n d * 1000 ≤ 786 * restBot d
   pub small : rest q X < 17179869184
 
 small-of : (A n d k : ℕ) → 0 < d → 2 * restTop k n d ≤ piTop * d → Angle 17179869184 A (restBot d) (restTop k n d) 2 → A < 17179869184
@@ -210,6 +221,7 @@ module _ (neg : Bool) (n d X k : ℕ) (dp : 0 < d) (e : X * d ≡ 1099511627776 
         sign = subst (λ (z : ℕ). ltb (2 * piBot * n) (z * (piTop * d)) ≡ odd q) (sym hk) (test-false _ _ ge ∙ sym (ap (λ (z : ℕ). not (eqb z 0)) r0));
         angle = subst₂ (λ (z a : ℕ). Angle 17179869184 a (restBot d) (restTop z n d) 2) (sym hk) (sym re) an;
         proper = subst (λ (z : ℕ). restTop z n d ≤ restBot d) (sym hk) (rest-proper n d k sm);
+        under = subst (λ (z : ℕ). restTop z n d * 1000 ≤ 786 * restBot d) (sym hk) (rest-under n d k sm);
         small = subst (λ (z : ℕ). z < 17179869184) (sym re) (small-of ((X * 256 - b) / 16384) n d k dp sm an);
       }
     where
@@ -245,6 +257,7 @@ module _ (neg : Bool) (n d X k : ℕ) (dp : 0 < d) (e : X * d ≡ 1099511627776 
         sign = subst (λ (z : ℕ). ltb (2 * piBot * n) (z * (piTop * d)) ≡ odd q) (sym hk) (test-true _ _ lt ∙ sym (ap (λ (z : ℕ). not (eqb z 0)) r1));
         angle = subst₂ (λ (z a : ℕ). Angle 17179869184 a (restBot d) (restTop z n d) 2) (sym hk) (sym re) an;
         proper = subst (λ (z : ℕ). restTop z n d ≤ restBot d) (sym hk) (rest-proper n d k sm);
+        under = subst (λ (z : ℕ). restTop z n d * 1000 ≤ 786 * restBot d) (sym hk) (rest-under n d k sm);
         small = subst (λ (z : ℕ). z < 17179869184) (sym re) (small-of ((b - X * 256) / 16384) n d k dp sm an);
       }
     where

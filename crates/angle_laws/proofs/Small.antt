@@ -1,10 +1,10 @@
--- Below 2^-12 the sine is x itself and the cosine 1: both well within 2^-20 of S and C.
+-- Below 2^-12 the sine is x itself and the cosine 1: both well within 2^-20 of S and C. Assumes nothing.
 use mathlib.Core.Path.{_≡_, ap, refl, sym, _∙_, subst, subst₂}
 use Prim.Native.Nat.{ℕ, _+_, _*_, _≤_, _<_, zero-le}
 use native.Mathlib.Nat.{mul-le-mul-left, mul-le-mul, le-trans, le-of-eq, lt-of-le-of-lt, zero-mul, mul-le-mul-right, mul-lt-mul-of-pos-left, mul-pos, mul-assoc}
 use native.Mathlib.Omega.{arith}
 use mathlib.Core.Bool.{Bool, true, false}
-use mathlib.Core.List.{List, [], _∷_}
+use mathlib.Core.List.{List, _∷_, []}
 use lib.Dec.{ltb, lit<, lit≤}
 use lib.Ieee.{fin}
 use Rattle.angles.specs.Steps.{dist, sinDivs, cosDivs, xor}
@@ -80,6 +80,18 @@ module _ (n d : ℕ) (dp : 0 < d) (h : 4096 * n < d) where
     where
       go : (n : ℕ) → 4096 * n < d → n ≤ d
       go n h = omega arith
+
+  pub under0 : 2 * piBot * n * 1000 ≤ 786 * (2 * piBot * d)
+  under0 = le-trans (le-of-eq (f1 (2 * piBot) n)) (le-trans (mul-le-mul-left (2 * piBot) (go n h)) (le-of-eq (f2 (2 * piBot) d)))
+    where
+      go : (n : ℕ) → 4096 * n < d → n * 1000 ≤ 786 * d
+      go n h = omega arith
+
+      f1 : (t n : ℕ) → t * n * 1000 ≡ t * (n * 1000)
+      f1 t n = omega arith
+
+      f2 : (t d : ℕ) → t * (786 * d) ≡ 786 * (t * d)
+      f2 t d = omega arith
 
   sq : 16777216 * (2 * piBot * n * (2 * piBot * n)) ≤ 2 * piBot * d * (2 * piBot * d)
   sq = square-small n d (2 * piBot) (le1 (4096 * n) d h)

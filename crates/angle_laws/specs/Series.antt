@@ -1,6 +1,6 @@
 -- The sine and cosine series of document 01 over a fraction R / D, as whole numbers over a common denominator; and the same in nested form, exact and in fixed point.
 use Prim.Native.Nat.{ℕ, zero, suc, _*_, _-_, _/_, _^_, _+_}
-use mathlib.Core.List.{List, [], _∷_}
+use mathlib.Core.List.{List, _∷_, []}
 
 abbrev pub fact : ℕ → ℕ
 fact zero = 1

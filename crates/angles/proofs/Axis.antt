@@ -4,8 +4,8 @@ use mathlib.Core.Bool.{Bool, true, false, cond, not, _&&_}
 use lib.Ieee.{Float, binary32, div, lt, eq, neg}
 use lib.Dec.{T}
 use lib.Ieee.Scale.{finite}
-use Rattle.angles.specs.Sines.{plusZero}
-use Rattle.angles.specs.Arc.{one, behindOf, bestSteps, pi32, arctanSteps}
+use Rattle.angles.specs.Sines.{plusZero, one}
+use Rattle.angles.specs.Arc.{behindOf, bestSteps, pi32, arctanSteps}
 
 -- ---- the code's branches
 pub behind-1 : (x : Float) → lt x plusZero ≡ true → true ≡ behindOf x

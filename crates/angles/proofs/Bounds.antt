@@ -1,12 +1,12 @@
--- The bounds that the code's products and differences ask for.
+-- The bounds that the code's products and differences ask for. Assumes nothing.
 use Prim.Native.Nat.{ℕ, _*_, _^_, _≤_, _<_, _/_, _-_, _%_}
 use native.Mathlib.Nat.{lt-of-le-of-lt, mul-le-mul, le-trans, div-le-self, div-le-of-le-mul, le-refl, sub-le, mul-le-mul-left}
 use lib.Dec.{lit<, lit≤, eqb}
 use native.Mathlib.Omega.{arith}
-use mathlib.Core.Path.{_≡_, ap}
+use mathlib.Core.Path.{_≡_, sym, ap, subst}
 use mathlib.Core.Bool.{cond}
-use mathlib.Core.List.{List, [], _∷_}
-use Rattle.angles.specs.Steps.{rest, even, base, nest, sinDivs, square, sinFix, sinFine, cosDivs, cosFix}
+use mathlib.Core.List.{List, _∷_, []}
+use Rattle.angles.specs.Steps.{rest, even, base, nest, sinDivs, square, sinFix, cosDivs, cosFix}
 
 pub level-mul : (t h : ℕ) → t ≤ 1073741824 → h ≤ 1073741824 → t * h < 2 ^ 64
 level-mul t h a b = lt-of-le-of-lt (mul-le-mul a b) (lit< tt)
@@ -35,12 +35,6 @@ sin-le a h x y = div-le-of-le-mul 8589934592 (mul-le-mul {n₂ = 17179869184} (l
     le1 : (a : ℕ) → a < 17179869184 → a ≤ 17179869184
     le1 a x = omega arith
 
-pub fine-le : (a h : ℕ) → a < 17179869184 → h ≤ 1073741824 → a * h / 33554432 ≤ 549755813888
-fine-le a h x y = div-le-of-le-mul 33554432 (mul-le-mul {n₂ = 17179869184} (le1 a x) y)
-  where
-    le1 : (a : ℕ) → a < 17179869184 → a ≤ 17179869184
-    le1 a x = omega arith
-
 -- ---- the two cases of `rest`
 pub rest-even : (q x : ℕ) → q % 2 ≡ 0 → rest q x ≡ (x * 256 - base (even q)) / 16384
 rest-even q x h = ap (λ (z : ℕ). cond (eqb z 0) (x * 256 - base (even q)) (base (even q) - x * 256) / 16384) h
@@ -64,13 +58,16 @@ pub sin-fix-le : (a : ℕ) → a < 17179869184 → sinFix a ≤ 2147483648
 unfolding sinFix
 sin-fix-le a h = sin-le a (nest 1073741824 (square a) sinDivs) h (nest-le 1073741824 (square a) sinDivs)
 
-pub sin-fine-le : (a : ℕ) → a < 17179869184 → sinFine a ≤ 549755813888
-unfolding sinFine
-sin-fine-le a h = fine-le a (nest 1073741824 (square a) sinDivs) h (nest-le 1073741824 (square a) sinDivs)
-
 pub cos-fix-le : (a : ℕ) → cosFix a ≤ 2147483648
 unfolding cosFix
 cos-fix-le a = mul-le-mul-left 2 (nest-le 1073741824 (square a) cosDivs)
 
-pub cos-fine-le : (a : ℕ) → 256 * cosFix a ≤ 549755813888
-cos-fine-le a = mul-le-mul-left 256 (cos-fix-le a)
+pub level-le : (t h c r : ℕ) → r ≡ 1073741824 - t * h / 1073741824 / c → r ≤ 1073741824
+level-le t h c r e = subst (λ (z : ℕ). z ≤ 1073741824) (sym e) (sub-le 1073741824 (t * h / 1073741824 / c))
+
+-- what the calls give
+pub sin-got : (a s : ℕ) → a < 17179869184 → s ≡ sinFix a → s ≤ 2147483648
+sin-got a s h e = subst (λ (z : ℕ). z ≤ 2147483648) (sym e) (sin-fix-le a h)
+
+pub cos-got : (a s : ℕ) → s ≡ cosFix a → s ≤ 2147483648
+cos-got a s e = subst (λ (z : ℕ). z ≤ 2147483648) (sym e) (cos-fix-le a)

@@ -7,7 +7,6 @@ use lib.Ieee.Scale.{finite}
 use Rattle.angles.specs.Sines.{plusZero, inRange, sineSteps, cosineSteps}
 use Rattle.angles.specs.Arc.{arctanSteps}
 use Rattle.angles.specs.Says.{sinOf, cosOf, atan2Of, sineSays, cosineSays, arctanSays}
-use Rattle.angles.specs.declared.Answer.{Answer}
 use Rattle.angles.specs.declared.Answer.the-variants.{Value, Refused}
 
 yes : {A : Type 0} (b d : Bool) (x y r : A) → b ≡ d → b ≡ true → r ≡ x → r ≡ cond d x y

@@ -1,10 +1,11 @@
+-- What the functions' proofs cite: bounds, and the steps branch by branch.
 pub mod Bounds
 pub mod Scan
 pub mod Steps
 pub mod Rounding
-pub mod Input
 pub mod Range
-pub mod Whole
+pub mod Waves
+pub mod Guessed
 pub mod Seek
 pub mod Ratio
 pub mod Sides

@@ -1,16 +1,17 @@
--- A float from -16 to 16, by its sign, digits and exponent: not below 2^-12 in size, or below.
-use mathlib.Core.Bool.{Bool, true, false, _||_, _&&_, not, cond}
+-- A float from -16 to 16: its size, and what that is in units of 2^-40. Assumes nothing.
+use mathlib.Core.Bool.{Bool, true, false, _&&_, not, cond, _||_}
 use mathlib.Core.Logic.{_⊎_, inl, inr}
-use lib.Dec.{T, ltb, eqb, ltb→lt, eqb→eq, nltb→le, not-T}
-use Prim.Native.Nat.{ℕ, _≤_, _*_, zero, suc, _<_, _+_}
-use native.Mathlib.Nat.{le-of-eq, le-of-lt}
+use lib.Dec.{T, ltb, eqb, ltb→lt, nltb→le, eqb→eq}
+use Prim.Native.Nat.{ℕ, _*_, _/_, _≤_, _<_}
+use native.Mathlib.Nat.{le-trans, le-of-eq, le-of-lt, le-of-mul-le-mul-right, div-mul-le-self}
 use lib.Ieee.Fits.{and-l, and-r, down-pos}
-use mathlib.Core.Path.{sym, _≡_, subst, refl, ap}
+use mathlib.Core.Path.{_≡_, sym, subst}
 use native.Mathlib.Omega.{arith}
 use lib.IntN.{ℤ}
-use lib.Ieee.{fin, up, down, neg, le, nan, inf, binary32, fits, Float, lt}
-use lib.Ieee.Bits.{is-false}
-use Rattle.angles.specs.Sines.{sixteen, inRange, plusZero, absf, small}
+use lib.Ieee.{Float, nan, inf, fin, up, down, neg, lt, le}
+use lib.Ieee.Scale.{finite}
+use Rattle.bits.specs.Parts.{places}
+use Rattle.angles.specs.Sines.{sixteen, inRange, plusZero, absf}
 
 or-split : (a b : Bool) → T (a || b) → T a ⊎ T b
 or-split true b t = inl tt
@@ -22,8 +23,11 @@ at-most a b r t = elim (or-split (ltb a b) (eqb a b && r) t) [ inl u ↦ le-of-l
 at-most' : (a b : ℕ) (r : Bool) → T (ltb a b || (eqb b a && r)) → a ≤ b
 at-most' a b r t = elim (or-split (ltb a b) (eqb b a && r) t) [ inl u ↦ le-of-lt (ltb→lt a b u) | inr u ↦ le-of-eq (sym (eqb→eq b a (and-l (eqb b a) r u))) ]
 
+pub not-lt : (a b : ℕ) → ltb a b ≡ false → b ≤ a
+not-lt a b h = nltb→le a b (subst (λ (z : Bool). T (not z)) (sym h) tt)
+
 -- ---- within ±16
-range-hi : (s : Bool) (m : ℕ) (e : ℤ) → T (inRange (fin s m e)) → m * up e ≤ 16 * down e
+pub range-hi : (s : Bool) (m : ℕ) (e : ℤ) → T (inRange (fin s m e)) → m * up e ≤ 16 * down e
 unfolding le neg
 range-hi true m e t = go (at-most' (m * up e * 1) (16 * down e) true (and-l (le (neg sixteen) (fin true m e)) (le (fin true m e) sixteen) t))
   where
@@ -34,112 +38,28 @@ range-hi false m e t = go (at-most (m * up e * 1) (16 * down e) true (and-r (le 
     go : m * up e * 1 ≤ 16 * down e → m * up e ≤ 16 * down e
     go h = omega arith
 
-no-nan : T (inRange nan) → ⊥
+pub no-nan : T (inRange nan) → ⊥
 unfolding le neg
 no-nan t = t
 
-no-inf : (s : Bool) → T (inRange (inf s)) → ⊥
+pub no-inf : (s : Bool) → T (inRange (inf s)) → ⊥
 unfolding le neg
 no-inf true t = t
 no-inf false t = t
 
-fits-sign : (s : Bool) (m : ℕ) (e : ℤ) → T (fits binary32 (fin s m e)) → T (fits binary32 (fin false m e))
-unfolding fits
-fits-sign s zero e t = t
-fits-sign s (suc m) e t = t
-
--- ---- not below 2^-12 in size
-pub record Large (x : Float) : Type 0 where
-  pub s : Bool
-  pub m : ℕ
-  pub e : ℤ
-  pub is : x ≡ fin s m e
-  pub abs : absf x ≡ fin false m e
-  pub sgn : lt x plusZero ≡ s
-  pub lo : down e ≤ 4096 * (m * up e)
-  pub hi : m * up e ≤ 16 * down e
-  pub fit : T (fits binary32 (fin false m e))
-
-pub not-lt : (a b : ℕ) → ltb a b ≡ false → b ≤ a
-not-lt a b h = nltb→le a b (subst (λ (z : Bool). T (not z)) (sym h) tt)
-
-is-lt : (a b : ℕ) → ltb a b ≡ true → a < b
-is-lt a b h = ltb→lt a b (subst T (sym h) tt)
-
-lo-of : (n d : ℕ) → 1 * d ≤ n * 4096 → d ≤ 4096 * n
-lo-of n d h = omega arith
-
-hi-of : (n d : ℕ) → n * 4096 < 1 * d → 4096 * n < d
-hi-of n d h = omega arith
-
-never : (n d : ℕ) → 0 < d → ltb 0 (n * 4096 + 1 * d) ≡ false → ⊥
-never n d dp h = no (not-lt 0 (n * 4096 + 1 * d) h)
+-- ---- the size of x, in units of 2^-40
+places-le : (n d : ℕ) → 0 < d → n ≤ 16 * d → n * 1099511627776 / d ≤ 17592186044416
+places-le n d dp h = le-of-mul-le-mul-right (le-trans (div-mul-le-self (n * 1099511627776) d) (go n d h)) dp
   where
-    no : n * 4096 + 1 * d ≤ 0 → ⊥
-    no k = omega arith
+    go : (n d : ℕ) → n ≤ 16 * d → n * 1099511627776 ≤ 17592186044416 * d
+    go n d h = omega arith
 
-zero-of : (n d : ℕ) → ltb 0 (n * 1 + 0 * d) ≡ false → 0 < d → 4096 * n < d
-zero-of n d h dp = go (not-lt 0 (n * 1 + 0 * d) h)
+pub fix-asks : (x a : Float) → T (inRange x) → a ≡ absf x → T (finite a) × (places 40 a ≤ 17592186044416)
+unfolding absf neg places
+fix-asks nan a r e = absurd (no-nan r)
+fix-asks (inf s) a r e = absurd (no-inf s r)
+fix-asks (fin s m x) a r e = subst (λ (z : Float). T (finite z) × (places 40 z ≤ 17592186044416)) (sym e) (go (lt (fin s m x) plusZero))
   where
-    go : n * 1 + 0 * d ≤ 0 → 4096 * n < d
-    go k = omega arith
-
-not-below : (n d : ℕ) → ltb (n * 1) (0 * d) ≡ false
-not-below n d = is-false (ltb (n * 1) (0 * d)) (not-T (ltb (n * 1) (0 * d)) (λ (t : T (ltb (n * 1) (0 * d))). no (ltb→lt (n * 1) (0 * d) t)))
-  where
-    no : n * 1 < 0 * d → ⊥
-    no k = omega arith
-
-pub large : (x : Float) → T (fits binary32 x) → T (inRange x) → lt (absf x) small ≡ false → Large x
-unfolding absf
-large nan f r h = absurd (no-nan r)
-large (inf s) f r h = absurd (no-inf s r)
-large (fin true m e) f r h = go (ltb 0 (m * up e * 1 + 0 * down e)) refl h
-  where
-    go : (b : Bool) → ltb 0 (m * up e * 1 + 0 * down e) ≡ b → lt (cond b (fin false m e) (fin true m e)) small ≡ false → Large (fin true m e)
-    go true q h = record {
-      s = true;
-      m = m;
-      e = e;
-      is = refl;
-      abs = ap (λ (b : Bool). cond b (fin false m e) (fin true m e)) q;
-      sgn = q;
-      lo = lo-of (m * up e) (down e) (not-lt (m * up e * 4096) (1 * down e) h);
-      hi = range-hi true m e r;
-      fit = fits-sign true m e f;
-    }
-    go false q h = absurd (never (m * up e) (down e) (down-pos e) h)
-large (fin false m e) f r h =
-    let q : ltb (m * up e * 1) (0 * down e) ≡ false = not-below (m * up e) (down e) in
-    record {
-      s = false;
-      m = m;
-      e = e;
-      is = refl;
-      abs = ap (λ (b : Bool). cond b (fin true m e) (fin false m e)) q;
-      sgn = q;
-      lo = lo-of (m * up e) (down e) (not-lt (m * up e * 4096) (1 * down e) (subst (λ (b : Bool). lt (cond b (fin true m e) (fin false m e)) small ≡ false) q h));
-      hi = range-hi false m e r;
-      fit = f;
-    }
-
--- ---- below 2^-12 in size
-pub record Little (x : Float) : Type 0 where
-  pub s : Bool
-  pub m : ℕ
-  pub e : ℤ
-  pub is : x ≡ fin s m e
-  pub lo : 4096 * (m * up e) < down e
-
-pub little : (x : Float) → T (inRange x) → lt (absf x) small ≡ true → Little x
-unfolding absf
-little nan r h = absurd (no-nan r)
-little (inf s) r h = absurd (no-inf s r)
-little (fin true m e) r h = go (ltb 0 (m * up e * 1 + 0 * down e)) refl h
-  where
-    go : (b : Bool) → ltb 0 (m * up e * 1 + 0 * down e) ≡ b → lt (cond b (fin false m e) (fin true m e)) small ≡ true → Little (fin true m e)
-    go true q h = record { s = true; m = m; e = e; is = refl; lo = hi-of (m * up e) (down e) (is-lt (m * up e * 4096) (1 * down e) h) }
-    go false q h = record { s = true; m = m; e = e; is = refl; lo = zero-of (m * up e) (down e) q (down-pos e) }
-little (fin false m e) r h =
-    let q : ltb (m * up e * 1) (0 * down e) ≡ false = not-below (m * up e) (down e) in
-    record { s = false; m = m; e = e; is = refl; lo = hi-of (m * up e) (down e) (is-lt (m * up e * 4096) (1 * down e) (subst (λ (b : Bool). lt (cond b (fin true m e) (fin false m e)) small ≡ true) q h)) }
+    go : (b : Bool) → T (finite (cond b (fin (not s) m x) (fin s m x))) × (places 40 (cond b (fin (not s) m x) (fin s m x)) ≤ 17592186044416)
+    go true = (tt, places-le (m * up x) (down x) (down-pos x) (range-hi s m x r))
+    go false = (tt, places-le (m * up x) (down x) (down-pos x) (range-hi s m x r))

@@ -1,4 +1,4 @@
--- The ratio of two sizes, lo / big ≤ 1, as a whole number of 2^-31: by an `f32` division, a product and a cut.
+-- The ratio of two sizes, lo / big ≤ 1, as a whole number of 2^-31: by an `f32` division, a product and a cut. Assumes nothing.
 use Prim.Native.Nat.{ℕ, _+_, _*_, _≤_, _^_, _<_, _/_, min}
 use mathlib.Core.Bool.{false, Bool, true, true≢false}
 use lib.IntN.{pos}

@@ -1,4 +1,4 @@
--- Halving: what `seek` comes to passes the test, and the next does not, or there is none.
+-- Halving: what `seek` comes to passes the test, and the next does not, or there is none. Assumes nothing.
 use Prim.Native.Nat.{ℕ, _*_, _≤_, _<_, _+_, _/_, zero, suc, _^_, zero-le, _-_}
 use mathlib.Core.Path.{_≡_, subst, refl, sym, ap, ap₂, _∙_, subst₂}
 use mathlib.Core.Logic.{_⊎_, inr, inl}

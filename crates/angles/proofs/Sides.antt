@@ -1,6 +1,6 @@
 -- The sizes of y and x, and their ratio: what the code asks on the way. Assumes nothing.
 use mathlib.Core.Path.{_≡_, ap, refl, ap₂, _∙_, sym, subst, subst₂}
-use mathlib.Core.Bool.{true, false, Bool, _&&_, _||_, Bool·beq, cond, not, true≢false}
+use mathlib.Core.Bool.{true, false, Bool, _&&_, Bool·beq, cond, not, true≢false, _||_}
 use Prim.Native.Nat.{ℕ, _<_, _≤_, _+_, _*_, zero, suc, zero-le}
 use lib.Dec.{ltb, lt→ltb, T, ltb→lt, not-T, eqb, eqb→eq}
 use lib.Ieee.Bits.{is-true, is-false}

@@ -1,4 +1,4 @@
--- The exact steps of the arctangent (docs/ANGLES.md): what the code answers, bit for bit.
+-- The exact steps of the arctangent (docs/ANGLES.md): what the code answers, bit for bit. Definitions only.
 use Prim.Native.Nat.{ℕ, _+_, zero, suc, _-_, _/_, min, _*_, _%_}
 use mathlib.Core.Bool.{Bool, cond, Bool·beq, not, _&&_, false, true}
 use lib.Ieee.{Float, eq, fin, neg, lt, binary32, mul, div, toUnsigned, ofInt, le, down}
@@ -7,10 +7,9 @@ use lib.IntN.{negsuc, pos}
 use lib.Dec.{leb}
 use Rattle.bits.specs.Parts.{places}
 use Rattle.angles.specs.Steps.{dist, seek, xor, scan, rest, sinFix, cosFix}
-use Rattle.angles.specs.Sines.{plusZero, half, odd}
+use Rattle.angles.specs.Sines.{plusZero, one, half, odd}
 use Rattle.angles.specs.Guess.{arcGuess}
 
--- ---- what is asked, of y = ± ny / dy, x = ± nx / dx and the fractions s = S(a), c = C(a)
 -- the size of ± u - ± v
 abbrev pub minusSize : Bool → ℕ → Bool → ℕ → ℕ
 minusSize a u b v = cond (Bool·beq a b) (dist u v) (u + v)
@@ -61,6 +60,10 @@ arcSteps y x =
     let a = angleOf (eighthOf b (lt x plusZero)) (seek 24 (cond b (ratioOf (magf y) (magf x)) (ratioOf (magf x) (magf y))) 0 13176795) in
     cond (lt y plusZero) (neg a) a
 
+-- ± the f32 nearest π
+abbrev pub pi32 : Bool → Float
+pi32 s = fin s 13176795 (negsuc 21)
+
 -- ---- the certificate of a guessed angle c, over whole numbers: py, px stand for |y|, |x| in units of 2^-31 of the larger
 -- ± u + ± v ≥ 2^60
 abbrev pub plusOver : Bool → ℕ → Bool → ℕ → Bool
@@ -85,9 +88,10 @@ unfoldable pub gridTest : Bool → ℕ → ℕ → ℕ → Bool
 unfolding lineTest
 gridTest back py px X = let q = scan 20 0 X in turnTest (half q % 4) (odd q) back py px (sinFix (rest q X)) (cosFix (rest q X))
 
+-- an angle c from +0 to the f32 nearest π
 unfoldable pub certOf : Bool → ℕ → ℕ → Float → Bool
-unfolding lt le places gridTest
-certOf back py px c = cond (lt plusZero c) (cond (le c (fin false 13176795 (negsuc 21))) (gridTest back py px (places 40 c)) false) false
+unfolding le places gridTest
+certOf back py px c = cond (le c (pi32 false)) (gridTest back py px (places 40 c)) false
 
 -- the guess where it is certified, the halving elsewhere
 unfoldable pub bestSteps : Float → Float → Float
@@ -97,17 +101,10 @@ bestSteps y x =
     let q = magf x in
     let b = le p q in
     let t = cond b (ratioOf p q) (ratioOf q p) in
-    let c = arcGuess b (lt x plusZero) (cond b p q) (cond b q p) in
+    let c = magf (arcGuess (lt x plusZero) p q) in
     cond (certOf (lt x plusZero) (cond b t 2147483648) (cond b 2147483648 t) c) (cond (lt y plusZero) (neg c) c) (arcSteps y x)
 
 -- ---- y zero
--- ± the f32 nearest π
-abbrev pub pi32 : Bool → Float
-pi32 s = fin s 13176795 (negsuc 21)
-
-abbrev pub one : Float
-one = fin false 1 (pos 0)
-
 -- x is below zero or -0
 unfoldable pub behindOf : Float → Bool
 unfolding lt eq div

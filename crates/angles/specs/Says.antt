@@ -1,5 +1,5 @@
 -- What a call answers: the value by the steps where document 01 lets a call answer, and its refusal elsewhere. Definitions only.
-use mathlib.Core.Bool.{Bool, true, false, cond, _&&_}
+use mathlib.Core.Bool.{cond, _&&_}
 use lib.Ieee.{Float}
 use lib.Ieee.Scale.{finite}
 use Rattle.angles.specs.Sines.{plusZero, inRange, sineSteps, cosineSteps}

@@ -1,9 +1,10 @@
--- The exact steps, on whole numbers (docs/ANGLES.md).
+-- The exact steps, on whole numbers (docs/ANGLES.md). Definitions only.
 use mathlib.Core.Bool.{Bool, not, Bool·beq, true, false, cond}
 use Prim.Native.Nat.{ℕ, _+_, _-_, _*_, _/_, zero, suc, _%_}
 use lib.Dec.{leb, eqb}
-use mathlib.Core.List.{List, [], _∷_}
+use mathlib.Core.List.{List, _∷_, []}
 
+-- one of the two, and not both
 abbrev pub xor : Bool → Bool → Bool
 xor a b = not (Bool·beq a b)
 
@@ -36,7 +37,7 @@ base j = j * Q58 / 1024
 abbrev pub rest : ℕ → ℕ → ℕ
 rest q x = cond (eqb (q % 2) 0) (x * 256 - base (even q)) (base (even q) - x * 256) / 16384
 
--- the same in fixed point: P stands for 1, T for t
+-- 1 - t/c₁ (1 - t/c₂ (1 - ..)) in fixed point: P stands for 1, T for t
 unfoldable pub nest : ℕ → ℕ → List ℕ → ℕ
 nest P T [] = P
 nest P T (c ∷ cs) = P - T * nest P T cs / P / c
@@ -56,11 +57,6 @@ unfoldable pub sinFix : ℕ → ℕ
 unfolding nest
 sinFix a = a * nest 1073741824 (square a) sinDivs / 8589934592
 
--- the sine in units of 2^-39
-unfoldable pub sinFine : ℕ → ℕ
-unfolding nest
-sinFine a = a * nest 1073741824 (square a) sinDivs / 33554432
-
 unfoldable pub cosFix : ℕ → ℕ
 unfolding nest
 cosFix a = 2 * nest 1073741824 (square a) cosDivs
@@ -72,10 +68,3 @@ fitsUnder t j = leb (2147483648 * sinFix (j * 1024)) (t * cosFix (j * 1024))
 unfoldable pub seek : ℕ → ℕ → ℕ → ℕ → ℕ
 seek zero t lo hi = lo
 seek (suc f) t lo hi = elim (fitsUnder t ((lo + hi) / 2)) [ true ↦ seek f t ((lo + hi) / 2) hi | false ↦ seek f t lo ((lo + hi) / 2) ]
-
--- ---- the certificate: a guess m, in units of 2^-62, stands where it is near v, in units of 2^-39; elsewhere v stands
-abbrev pub slack : ℕ → ℕ
-slack v = 128 + v / 4194304
-
-unfoldable pub pickOf : ℕ → ℕ → ℕ
-pickOf m v = cond (leb (m / 8388608) (v + slack v)) (cond (leb v (m / 8388608 + slack v)) m (v * 8388608)) (v * 8388608)

@@ -1,8 +1,10 @@
-// Sine, cosine and arctangent of document 01's "Angles", by the exact steps of docs/ANGLES.md.
+// Sine, cosine and arctangent of document 01's "Angles", by the exact steps of docs/ANGLES.md, which
+// are the C library's own.
 //
-// A guess in floating point is certified by whole numbers, and where it is not certified the whole
-// numbers' own answer stands. The contracts hold the steps, as definitions in specs/; that the steps
-// meet document 01's bounds is proved in the crate `angle_laws`.
+// The sine and the cosine are polynomials in f64. The arctangent is a guess in f32, which whole
+// numbers certify; where they do not, it is found by halving. The contracts hold the steps, as
+// definitions in specs/. That the steps meet document 01's bounds is proved in the crate
+// `angle_laws`.
 //
 // `sin`, `cos` and `atan2` take every f32 and give +0 where document 01 has the call refused. `sine`,
 // `cosine` and `arctangent` say so instead, with document 01's number and place.
@@ -13,16 +15,179 @@ ghost use lib.Dec.{T};
 ghost use lib.IntN.{pos};
 ghost use lib.Ieee.{Float, fin, binary32, lt, mul, div, ofInt};
 ghost use lib.Ieee.Scale.{finite};
-ghost use Rattle.angles.specs.Steps.{scan, rest, xor, sinFix, sinFine, cosFix, pickOf, seek};
-ghost use Rattle.angles.specs.Guess.{wholeOf, sizeOf, whole62, reduceOf, sinGuess, cosGuess, atanPoly, atanGuess, turnGuess, farGuess, arcGuess};
-ghost use Rattle.angles.specs.Sines.{big, signed, sinStep, cosStep, sinBest, cosBest, sinFrom, cosFrom, sineSteps, cosineSteps, inRange, absf, toFix};
+ghost use Rattle.bits.specs.Parts.{places};
+ghost use Rattle.angles.specs.Steps.{xor, scan, rest, sinFix, cosFix, seek};
+ghost use Rattle.angles.specs.Sines.{plusZero, inRange, absf, restOf, sinPoly, cosPoly, sinValue, sinMinus, cosValue, cosMinus, single, sinFrom, cosFrom, sineSteps, cosineSteps};
+ghost use Rattle.angles.specs.Guess.{tailOf, raisedOf, loweredOf, atanLow, atanHigh, atanGuess, arcGuess};
 ghost use Rattle.angles.specs.Arc.{usable, magf, ratioOf, angleOf, eighthOf, arcSteps, behindOf, minusSize, plusOver, lineTest, turnTest, gridTest, certOf, bestSteps, arctanSteps};
 ghost use Rattle.angles.specs.Says.{sinOf, cosOf, atan2Of, sineSays, cosineSays, arctanSays};
+
+// The eighth of a turn, counted from 0, in which x lies, in units of 2^-40.
+fn eighth(x: u64) -> u64
+    requires { ⌜ x ≤ 17592186044416 ⌝ }
+    ensures { λ r. ⌜ r ≡ scan 20 0 x ⌝ }
+{
+    // 4 / π is a little more than 83443 / 2^16, so this is that eighth, or now and then the one before.
+    let q = x / 16777216 * 83443 / 4294967296;
+    if x <= (q + 1) * 226375608064910088 / 262144 {
+        q
+    } else {
+        q + 1
+    }
+}
+
+fn size_of(x: f32) -> f32
+    ensures { λ r. ⌜ r ≡ absf x ⌝ }
+{
+    if x < 0.0 { -x } else { x }
+}
+
+fn size_64(x: f64) -> f64
+    ensures { λ r. ⌜ r ≡ absf x ⌝ }
+{
+    if x < 0.0 { -x } else { x }
+}
+
+// |r|: the size of a less the multiple of π/2 that belongs to the eighth q.
+fn rest_64(q: u64, a: f32) -> f64
+    requires { ⌜ q ≤ 20 ⌝ }
+    ensures { λ r. ⌜ r ≡ restOf q a ⌝ }
+{
+    let t = (q + q % 2) as u32 as f64;
+    size_64(std::num::f32_to_f64_with_nan(a) - t * 0.7853981633974483)
+}
+
+fn sin_poly(r: f64) -> f64
+    ensures { λ s. ⌜ s ≡ sinPoly r ⌝ }
+{
+    let z = r * r;
+    let c = r * z;
+    (r - c * 0.16666654943701084) + c * z * (0.008332178146138854 - z * 0.00019517298981385725)
+}
+
+fn cos_poly(r: f64) -> f64
+    ensures { λ s. ⌜ s ≡ cosPoly r ⌝ }
+{
+    let z = r * r;
+    let y = z * z;
+    ((1.0 - z * 0.49999999725108224) + y * 0.041666623324344516)
+        - y * z * (0.001388676379437604 - z * 2.4390450703564542e-05)
+}
+
+// The size of S by k mod 4, r being the size of the rest.
+fn sin_value(k: u64, r: f64) -> f64
+    ensures { λ v. ⌜ v ≡ sinValue k r ⌝ }
+{
+    match k {
+        0 => sin_poly(r),
+        1 => cos_poly(r),
+        2 => sin_poly(r),
+        _ => cos_poly(r),
+    }
+}
+
+// Whether S is below zero, by k mod 4, the rest being so where `down`.
+fn sin_minus(k: u64, down: bool) -> bool
+    ensures { λ m. ⌜ m ≡ sinMinus k down ⌝ }
+{
+    match k {
+        0 => down,
+        1 => false,
+        2 => !down,
+        _ => true,
+    }
+}
+
+// The same of C.
+fn cos_value(k: u64, r: f64) -> f64
+    ensures { λ v. ⌜ v ≡ cosValue k r ⌝ }
+{
+    match k {
+        0 => cos_poly(r),
+        1 => sin_poly(r),
+        2 => cos_poly(r),
+        _ => sin_poly(r),
+    }
+}
+
+fn cos_minus(k: u64, down: bool) -> bool
+    ensures { λ m. ⌜ m ≡ cosMinus k down ⌝ }
+{
+    match k {
+        0 => false,
+        1 => !down,
+        2 => true,
+        _ => down,
+    }
+}
+
+// v as an f32, negated where `minus`. From 2^-60 to below 2, where every size was that was met.
+fn rounded(minus: bool, v: f64) -> f32
+    ensures { λ r. ⌜ r ≡ single minus v ⌝ }
+{
+    if 8.673617379884035e-19 <= v {
+        if v < 2.0 {
+            return bits::narrow(minus, v);
+        }
+    }
+    0.0
+}
+
+fn differ(a: bool, b: bool) -> bool
+    ensures { λ r. ⌜ r ≡ xor a b ⌝ }
+{
+    if a { !b } else { b }
+}
+
+// The sine of a, from 2^-12 to 16, negated where `minus`.
+fn sin_from(minus: bool, a: f32) -> f32
+    requires { ⌜ T (finite a) × (places 40 a ≤ 17592186044416) ⌝ }
+    ensures { λ r. ⌜ r ≡ sinFrom minus a ⌝ }
+{
+    let q = eighth(bits::fixed(a, 40));
+    let k = (q + 1) / 2 % 4;
+    let v = sin_value(k, rest_64(q, a));
+    rounded(differ(minus, sin_minus(k, q % 2 != 0)), v)
+}
+
+fn cos_from(a: f32) -> f32
+    requires { ⌜ T (finite a) × (places 40 a ≤ 17592186044416) ⌝ }
+    ensures { λ r. ⌜ r ≡ cosFrom a ⌝ }
+{
+    let q = eighth(bits::fixed(a, 40));
+    let k = (q + 1) / 2 % 4;
+    let v = cos_value(k, rest_64(q, a));
+    rounded(cos_minus(k, q % 2 != 0), v)
+}
+
+// The sine of an x from -16 to 16.
+fn sin_of(x: f32) -> f32
+    requires { ⌜ T (inRange x) ⌝ }
+    ensures { λ r. ⌜ r ≡ sineSteps x ⌝ }
+{
+    let a = size_of(x);
+    if a < 0.000244140625 {
+        return x;
+    }
+    sin_from(x < 0.0, a)
+}
+
+// The cosine of an x from -16 to 16.
+fn cos_of(x: f32) -> f32
+    requires { ⌜ T (inRange x) ⌝ }
+    ensures { λ r. ⌜ r ≡ cosineSteps x ⌝ }
+{
+    let a = size_of(x);
+    if a < 0.000244140625 {
+        return 1.0;
+    }
+    cos_from(a)
+}
 
 // One level of the nested form: 1 - t / c * h, where 2^30 stands for 1.
 fn level(t: u64, h: u64, c: u64) -> u64
     requires { ⌜ (t ≤ 1073741824) × ((h ≤ 1073741824) × (1 ≤ c)) ⌝ }
-    ensures { λ r. ⌜ (r ≡ 1073741824 - t * h / 1073741824 / c) × (r ≤ 1073741824) ⌝ }
+    ensures { λ r. ⌜ r ≡ 1073741824 - t * h / 1073741824 / c ⌝ }
 {
     1073741824 - t * h / 1073741824 / c
 }
@@ -30,7 +195,7 @@ fn level(t: u64, h: u64, c: u64) -> u64
 // The sine, in units of 2^-31, of an angle in units of 2^-34.
 fn sin_fix(a: u64) -> u64
     requires { ⌜ a < 17179869184 ⌝ }
-    ensures { λ r. ⌜ (r ≡ sinFix a) × (r ≤ 2147483648) ⌝ }
+    ensures { λ r. ⌜ r ≡ sinFix a ⌝ }
 {
     let b = a / 4;
     let t = b * b / 17179869184;
@@ -43,26 +208,10 @@ fn sin_fix(a: u64) -> u64
     a * h1 / 8589934592
 }
 
-// The sine, in units of 2^-39, of an angle in units of 2^-34.
-fn sin_fine(a: u64) -> u64
-    requires { ⌜ a < 17179869184 ⌝ }
-    ensures { λ r. ⌜ (r ≡ sinFine a) × (r ≤ 549755813888) ⌝ }
-{
-    let b = a / 4;
-    let t = b * b / 17179869184;
-    let h6 = level(t, 1073741824, 156);
-    let h5 = level(t, h6, 110);
-    let h4 = level(t, h5, 72);
-    let h3 = level(t, h4, 42);
-    let h2 = level(t, h3, 20);
-    let h1 = level(t, h2, 6);
-    a * h1 / 33554432
-}
-
 // The cosine, in units of 2^-31, of an angle in units of 2^-34.
 fn cos_fix(a: u64) -> u64
     requires { ⌜ a < 17179869184 ⌝ }
-    ensures { λ r. ⌜ (r ≡ cosFix a) × (r ≤ 2147483648) ⌝ }
+    ensures { λ r. ⌜ r ≡ cosFix a ⌝ }
 {
     let b = a / 4;
     let t = b * b / 17179869184;
@@ -74,20 +223,6 @@ fn cos_fix(a: u64) -> u64
     let h2 = level(t, h3, 12);
     let h1 = level(t, h2, 2);
     2 * h1
-}
-
-// The eighth of a turn, counted from 0, in which x lies, in units of 2^-40.
-fn eighth(x: u64) -> u64
-    ensures { λ r. ⌜ (r ≡ scan 20 0 x) × (r ≤ 20) ⌝ }
-{
-    let mut q: u64 = 0;
-    while q < 20 {
-        if x <= (q + 1) * 226375608064910088 / 262144 {
-            return q;
-        }
-        q += 1;
-    }
-    q
 }
 
 // |r| in units of 2^-34.
@@ -111,193 +246,10 @@ fn rest_of(q: u64, x: u64) -> u64
     }
 }
 
-// The whole part of g, or 0.
-fn whole_of(g: f64) -> u64
-    ensures { λ r. ⌜ r ≡ wholeOf g ⌝ }
-{
-    if g > -1.0 {
-        if g < 18446744073709551616.0 {
-            return std::num::truncating_f64_to_u64(g);
-        }
-    }
-    0
-}
-
-fn size_64(w: f64) -> f64
-    ensures { λ r. ⌜ r ≡ sizeOf w ⌝ }
-{
-    if w < 0.0 { -w } else { w }
-}
-
-// |w| in units of 2^-62.
-fn whole_62(w: f64) -> u64
-    ensures { λ r. ⌜ r ≡ whole62 w ⌝ }
-{
-    whole_of(size_64(w) * 4611686018427387904.0)
-}
-
-// a less the multiple of π/4 that belongs to the eighth q: a guess.
-fn rest_64(q: u64, a: f32) -> f64
-    requires { ⌜ q ≤ 20 ⌝ }
-    ensures { λ r. ⌜ r ≡ reduceOf q a ⌝ }
-{
-    let t = (q + q % 2) as u32 as f64;
-    std::num::f32_to_f64_with_nan(a) - t * 0.7853981633670628 - t * 3.038550253253096e-11
-}
-
-// The sine of r: a guess.
-fn sin_guess(r: f64) -> f64
-    ensures { λ s. ⌜ s ≡ sinGuess r ⌝ }
-{
-    let z = r * r;
-    let y = z * z;
-    let p = (0.16666666666666666 - z * 0.008333333333330946)
-        + y
-            * ((0.0001984126983675497 - z * 2.755731610068311e-06)
-                + y * (2.5051131455445042e-08 - z * 1.5918101231536804e-10));
-    r - r * z * p
-}
-
-// The cosine of r: a guess.
-fn cos_guess(r: f64) -> f64
-    ensures { λ s. ⌜ s ≡ cosGuess r ⌝ }
-{
-    let z = r * r;
-    let y = z * z;
-    let p = (0.041666666666666664 - z * 0.0013888888888887395)
-        + y
-            * ((2.4801587298763433e-05 - z * 2.7557317270560374e-07)
-                + y * (2.0876146024700442e-09 - z * 1.138261486934626e-11));
-    1.0 - (z * 0.5 - y * p)
-}
-
-// The guess m where the fixed-point number v certifies it, otherwise v.
-fn pick(m: u64, v: u64) -> u64
-    requires { ⌜ v ≤ 549755813888 ⌝ }
-    ensures { λ r. ⌜ r ≡ pickOf m v ⌝ }
-{
-    let t = 128 + v / 4194304;
-    if m / 8388608 <= v + t {
-        if v <= m / 8388608 + t { m } else { v * 8388608 }
-    } else {
-        v * 8388608
-    }
-}
-
-// The sine of a / 2^34, in units of 2^-62; r is about the same angle.
-fn sin_best(a: u64, r: f64) -> u64
-    requires { ⌜ a < 17179869184 ⌝ }
-    ensures { λ m. ⌜ m ≡ sinBest a r ⌝ }
-{
-    pick(whole_62(sin_guess(r)), sin_fine(a))
-}
-
-// The cosine of a / 2^34, in units of 2^-62.
-fn cos_best(a: u64, r: f64) -> u64
-    requires { ⌜ a < 17179869184 ⌝ }
-    ensures { λ m. ⌜ m ≡ cosBest a r ⌝ }
-{
-    pick(whole_62(cos_guess(r)), 256 * cos_fix(a))
-}
-
-// m / 2^62, or its negation, as the nearest float.
-fn signed_of(minus: bool, m: u64) -> f32
-    ensures { λ r. ⌜ r ≡ signed minus m ⌝ }
-{
-    let g = bits::nearest(false, m, 62);
-    if minus { -g } else { g }
-}
-
-// S by k mod 4, for r = a / 2^34, or its negation where `down`.
-fn sin_step(k: u64, down: bool, a: u64, r: f64) -> f32
-    requires { ⌜ a < 17179869184 ⌝ }
-    ensures { λ y. ⌜ y ≡ sinStep k down a r ⌝ }
-{
-    match k {
-        0 => signed_of(down, sin_best(a, r)),
-        1 => signed_of(false, cos_best(a, r)),
-        2 => signed_of(!down, sin_best(a, r)),
-        _ => signed_of(true, cos_best(a, r)),
-    }
-}
-
-// C by k mod 4.
-fn cos_step(k: u64, down: bool, a: u64, r: f64) -> f32
-    requires { ⌜ a < 17179869184 ⌝ }
-    ensures { λ y. ⌜ y ≡ cosStep k down a r ⌝ }
-{
-    match k {
-        0 => signed_of(false, cos_best(a, r)),
-        1 => signed_of(!down, sin_best(a, r)),
-        2 => signed_of(true, cos_best(a, r)),
-        _ => signed_of(down, sin_best(a, r)),
-    }
-}
-
-// The sine of x / 2^40; v is the same number.
-fn sin_from(x: u64, v: f32) -> f32
-    requires { ⌜ x ≤ 17592186044416 ⌝ }
-    ensures { λ r. ⌜ r ≡ sinFrom x v ⌝ }
-{
-    let q = eighth(x);
-    let a = rest_of(q, x);
-    sin_step((q + 1) / 2 % 4, q % 2 != 0, a, rest_64(q, v))
-}
-
-// The cosine of x / 2^40.
-fn cos_from(x: u64, v: f32) -> f32
-    requires { ⌜ x ≤ 17592186044416 ⌝ }
-    ensures { λ r. ⌜ r ≡ cosFrom x v ⌝ }
-{
-    let q = eighth(x);
-    let a = rest_of(q, x);
-    cos_step((q + 1) / 2 % 4, q % 2 != 0, a, rest_64(q, v))
-}
-
-// The size of x.
-fn size_of(x: f32) -> f32
-    ensures { λ r. ⌜ r ≡ absf x ⌝ }
-{
-    if x < 0.0 { -x } else { x }
-}
-
-// x * 2^40, a whole number.
-fn to_fix(x: f32) -> u64
-    requires { ⌜ T (lt (fin true 1 (pos 0)) (mul binary32 x big)) × T (lt (mul binary32 x big) (fin false 1 (pos 64))) ⌝ }
-    ensures { λ r. ⌜ r ≡ toFix x ⌝ }
-{
-    std::num::truncating_f32_to_u64(x * 1099511627776.0)
-}
-
-// The sine of an x from -16 to 16.
-fn sin_of(x: f32) -> f32
-    requires { ⌜ T (inRange x) ⌝ }
-    ensures { λ r. ⌜ r ≡ sineSteps x ⌝ }
-{
-    let a = size_of(x);
-    if a < 0.000244140625 {
-        return x;
-    }
-    let y = sin_from(to_fix(a), a);
-    if x < 0.0 { -y } else { y }
-}
-
-// The cosine of an x from -16 to 16.
-fn cos_of(x: f32) -> f32
-    requires { ⌜ T (inRange x) ⌝ }
-    ensures { λ r. ⌜ r ≡ cosineSteps x ⌝ }
-{
-    let a = size_of(x);
-    if a < 0.000244140625 {
-        return 1.0;
-    }
-    cos_from(to_fix(a), a)
-}
-
 // The angle, in units of 2^-24 and at most π / 4, whose tangent is nearest below t / 2^31.
 fn seek_from(t: u64) -> u64
     requires { ⌜ t ≤ 4294967296 ⌝ }
-    ensures { λ r. ⌜ (r ≡ seek 24 t 0 13176795) × (r ≤ 13176795) ⌝ }
+    ensures { λ r. ⌜ r ≡ seek 24 t 0 13176795 ⌝ }
 {
     let mut lo: u64 = 0;
     let mut hi: u64 = 13176795;
@@ -402,83 +354,105 @@ fn arc(y: f32, x: f32) -> f32
     }
 }
 
-// The arctangent of z, of at most tan(π/8) in size: a guess.
-fn atan_poly(z: f64) -> f64
-    ensures { λ r. ⌜ r ≡ atanPoly z ⌝ }
+// About 1 - atan(u) / u.
+fn tail(u: f32) -> f32
+    ensures { λ r. ⌜ r ≡ tailOf u ⌝ }
 {
-    let u = z * z;
-    let y = u * u;
-    let x = y * y;
-    let p = ((0.3333333333333325 - u * 0.19999999999898238)
-        + y * (0.1428571426606795 - u * 0.11111109634672718))
-        + x
-            * (((0.09090852496987202 - u * 0.0769105407107388)
-                + y * (0.06649602210153648 - u * 0.057362617480983466))
-                + x * (0.044831026320461195 - u * 0.02274735261297688));
-    z - z * u * p
+    let v = u * u;
+    let w = v * v;
+    let e = v
+        * (0.3333333432674408
+            + w
+                * (0.1428571492433548
+                    + w
+                        * (0.09090887010097504
+                            + w
+                                * (0.06661073118448257
+                                    + w * (0.049768779426813126 + w * 0.016285819932818413)))));
+    let o = w
+        * (0.20000000298023224
+            + w
+                * (0.1111111044883728
+                    + w
+                        * (0.07691875845193863
+                            + w * (0.05833570286631584 + w * 0.03653157129883766))));
+    e - o
 }
 
-// The arctangent of lo / big: a guess.
-fn atan_guess(lo: f64, big: f64) -> f64
-    ensures { λ r. ⌜ r ≡ atanGuess lo big ⌝ }
+// h + l + atan(u).
+fn raised(h: f32, l: f32, u: f32) -> f32
+    ensures { λ r. ⌜ r ≡ raisedOf h l u ⌝ }
 {
-    if big * 0.41421356237309503 < lo {
-        atan_poly((lo - big) / (lo + big)) + 0.7853981633974483
+    h - ((u * tail(u) - l) - u)
+}
+
+// π/2 - atan(t).
+fn lowered(t: f32) -> f32
+    ensures { λ r. ⌜ r ≡ loweredOf t ⌝ }
+{
+    1.570796251296997 - (t - (t * tail(t) + 0.00000007549789415861596))
+}
+
+// atan(x), x below 7/16.
+fn atan_low(x: f32) -> f32
+    ensures { λ r. ⌜ r ≡ atanLow x ⌝ }
+{
+    if x < 0.000000001862645149230957 {
+        x
     } else {
-        atan_poly(lo / big)
+        x - x * tail(x)
     }
 }
 
-// By the eighth: w, π - w, π/2 - w, π/2 + w.
-fn turn_guess(flat: bool, back: bool, w: f64) -> f64
-    ensures { λ r. ⌜ r ≡ turnGuess flat back w ⌝ }
+// atan(x), x from 7/16 on: from atan(1/2), π/4, atan(3/2) or π/2.
+fn atan_high(x: f32) -> f32
+    ensures { λ r. ⌜ r ≡ atanHigh x ⌝ }
 {
-    if flat {
-        if back { 3.141592653589793 - w } else { w }
+    if x < 0.6875 {
+        raised(
+            0.46364760398864746,
+            0.00000000501215824399992,
+            (2.0 * x - 1.0) / (2.0 + x),
+        )
+    } else if x < 1.1875 {
+        raised(
+            0.7853981256484985,
+            0.00000003774894707930798,
+            (x - 1.0) / (x + 1.0),
+        )
+    } else if x < 2.4375 {
+        raised(
+            0.9827936887741089,
+            0.00000003447321716976148,
+            (x - 1.5) / (1.0 + 1.5 * x),
+        )
+    } else if x < 33554432.0 {
+        lowered(1.0 / x)
     } else {
-        if back {
-            1.5707963267948966 + w
-        } else {
-            1.5707963267948966 - w
-        }
+        1.5707963705062866
     }
 }
 
-fn far_guess(flat: bool, back: bool, lo: f32, big: f32) -> f32
-    ensures { λ r. ⌜ r ≡ farGuess flat back lo big ⌝ }
+fn atan_guess(x: f32) -> f32
+    ensures { λ r. ⌜ r ≡ atanGuess x ⌝ }
 {
-    let w = atan_guess(
-        std::num::f32_to_f64_with_nan(lo),
-        std::num::f32_to_f64_with_nan(big),
-    );
-    let m = whole_of(turn_guess(flat, back, w) * 2305843009213693952.0);
-    bits::nearest(false, m, 61)
-}
-
-// The size of the arctangent: a guess.
-fn arc_guess(flat: bool, back: bool, lo: f32, big: f32) -> f32
-    ensures { λ r. ⌜ r ≡ arcGuess flat back lo big ⌝ }
-{
-    if flat {
-        if back {
-            far_guess(flat, back, lo, big)
-        } else {
-            let z = lo / big;
-            if z < 0.00000095367431640625 {
-                z
-            } else {
-                far_guess(flat, back, lo, big)
-            }
-        }
+    if x < 0.4375 {
+        atan_low(x)
     } else {
-        far_guess(flat, back, lo, big)
+        atan_high(x)
     }
 }
 
-fn differ(a: bool, b: bool) -> bool
-    ensures { λ r. ⌜ r ≡ xor a b ⌝ }
+// The size of the angle of (p, s), the sizes of y and x: a guess.
+fn arc_guess(back: bool, p: f32, s: f32) -> f32
+    ensures { λ r. ⌜ r ≡ arcGuess back p s ⌝ }
 {
-    if a { !b } else { b }
+    let z = atan_guess(p / s);
+    if back {
+        3.1415927410125732 - (z + 0.00000008742277657347586)
+    } else {
+        z
+    }
 }
 
 // The size of ± u - ± v.
@@ -556,15 +530,13 @@ fn on_grid(back: bool, py: u64, px: u64, x: u64) -> bool
     )
 }
 
-// Whether the angle c is certified for (x, y), |y| and |x| being py and px.
+// Whether the angle c, not below zero, is certified for (x, y), |y| and |x| being py and px.
 fn certified(back: bool, py: u64, px: u64, c: f32) -> bool
-    requires { ⌜ (py ≤ 2147484168) × (px ≤ 2147484168) ⌝ }
+    requires { ⌜ (py ≤ 2147484168) × ((px ≤ 2147484168) × T (not (lt c plusZero))) ⌝ }
     ensures { λ r. ⌜ r ≡ certOf back py px c ⌝ }
 {
-    if 0.0 < c {
-        if c <= 3.1415927410125732421875 {
-            return on_grid(back, py, px, bits::fixed(c, 40));
-        }
+    if c <= 3.1415927410125732421875 {
+        return on_grid(back, py, px, bits::fixed(c, 40));
     }
     false
 }
@@ -576,15 +548,14 @@ fn arc_best(y: f32, x: f32) -> f32
 {
     let p = mag_of(y);
     let q = mag_of(x);
+    let c = mag_of(arc_guess(x < 0.0, p, q));
     if p <= q {
-        let c = arc_guess(true, x < 0.0, p, q);
         if certified(x < 0.0, ratio_of(p, q), 2147483648, c) {
             if y < 0.0 { -c } else { c }
         } else {
             arc(y, x)
         }
     } else {
-        let c = arc_guess(false, x < 0.0, q, p);
         if certified(x < 0.0, 2147483648, ratio_of(q, p), c) {
             if y < 0.0 { -c } else { c }
         } else {

@@ -7,8 +7,8 @@ use native.Mathlib.Nat.{mul-le-mul-right, suc-mul, mul-le-mul}
 use native.Mathlib.Omega.{arith}
 use lib.Dec.{leb, eqb, ltb}
 use lib.ListN.{length, take, replicate}
-use lib.Ieee.{Float}
-use borrow.Author.Tests.{eqb-true, leb-true, eq-eqb, ne-eqb, ltb-true, le-leb, lt-leb}
+use lib.Ieee.{Float, ofBits, lt}
+use borrow.Author.Tests.{eqb-true, eqb-false, leb-true, eq-eqb, ne-eqb, ltb-true, le-leb, lt-leb}
 use Rattle.points.specs.declared.Point3.{Point3}
 use Rattle.floats.specs.Floats.{zero32}
 use Rattle.mix.specs.declared.Share.{Share}
@@ -18,11 +18,12 @@ use Rattle.interpolate.specs.declared.Stride.{Stride}
 use Rattle.interpolate.specs.Blend.{delayAt, plainDelay, blendDelay, at, nowhere, strideOf, absent, known, allKnown, closer, nothing, shareOf, taken, pairOf, largest32, tiny32, close32, neighborsOf, distanceOf, pointsOf, Filter, extractOf, blendOf, refusedOf, weighedOf, interpolateOf, pick, totalOf, part}
 use Rattle.interpolate.specs.declared.Closest.{Closest}
 use Rattle.interpolate.specs.declared.Neighbors.{Neighbors}
-use lib.Ieee.{lt, ofBits}
 
-pub known-in : (m k : ℕ) → known m k ≡ true → (k ≡ 65535 → ⊥) → k < m
+-- ---- the six entries
+-- one that is not absent is a measurement
+pub known-in : (m k : ℕ) → known m k ≡ true → (k ≡ absent → ⊥) → k < m
 unfolding known
-known-in m k e h = ltb-true k m (sym (ap (λ (b : Bool). cond b true (ltb k m)) (ne-eqb k 65535 h)) ∙ e)
+known-in m k e h = ltb-true k m (sym (ap (λ (b : Bool). cond b true (ltb k m)) (ne-eqb k absent h)) ∙ e)
 
 and-left : (a b : Bool) → (a && b) ≡ true → a ≡ true
 and-left true b e = refl
@@ -35,13 +36,31 @@ and-right false b e = absurd (no e)
     no : false ≡ true → ⊥
     no z = let w : _≡_ {A = ℕ} 0 1 = cc in omega arith
 
+pub record Neighbors-known (m : ℕ) (s : Neighbors) : Type 0 where
+  pub a-known : known m (s .«phi_plus») ≡ true
+  pub b-known : known m (s .«phi_minus») ≡ true
+  pub c-known : known m (s .«theta_plus») ≡ true
+  pub d-known : known m (s .«theta_minus») ≡ true
+  pub e-known : known m (s .«radius_plus») ≡ true
+  pub f-known : known m (s .«radius_minus») ≡ true
+
+pub neighbors-known : (m : ℕ) (s : Neighbors) → allKnown m s ≡ true → Neighbors-known m s
+unfolding allKnown
+neighbors-known m s h =
+    let t = go (known m (s .«phi_plus»)) (known m (s .«phi_minus»)) (known m (s .«theta_plus»)) (known m (s .«theta_minus»)) (known m (s .«radius_plus»)) (known m (s .«radius_minus»)) h in
+    record { a-known = t .0; b-known = t .1; c-known = t .2; d-known = t .3; e-known = t .4; f-known = t .5 }
+  where
+    go : (a b c d e f : Bool) → (a && b && c && d && e && f) ≡ true → (a ≡ true) × (b ≡ true) × (c ≡ true) × (d ≡ true) × (e ≡ true) × (f ≡ true)
+    go a b c d e f h =
+        let h5 = and-left (a && b && c && d && e) f h in
+        let h4 = and-left (a && b && c && d) e h5 in
+        let h3 = and-left (a && b && c) d h4 in
+        let h2 = and-left (a && b) c h3 in
+        (and-left a b h2, and-right a b h2, and-right (a && b) c h3, and-right (a && b && c) d h4, and-right (a && b && c && d) e h5, and-right (a && b && c && d && e) f h)
+
 -- ---- the four places
 abbrev pub fours : Points → List Share
 fours p = p .a ∷ p .b ∷ p .c ∷ p .d ∷ []
-
-pub list-at : (p : Points) (k : ℕ) → p .count ≡ k → listOf p ≡ take k (fours p)
-unfolding listOf
-list-at p k e = ap (λ (j : ℕ). take j (fours p)) e
 
 pub count-length : (p : Points) → p .count ≤ 4 → length (listOf p) ≡ p .count
 unfolding listOf
@@ -75,17 +94,17 @@ total-at p k e = ap (λ (j : ℕ). totalOf (take j (fours p))) (sym e)
 
 -- ---- a pair
 module _ (d : ℕ → Float) (best : Closest) (k : ℕ) where
-  pub closer-absent : k ≡ 65535 → best ≡ closer d best k
+  pub closer-absent : k ≡ absent → best ≡ closer d best k
   unfolding closer
-  closer-absent e = rw (eq-eqb k 65535 e)
+  closer-absent e = rw (eq-eqb k absent e)
 
-  pub closer-wins : (x : Float) → (k ≡ 65535 → ⊥) → x ≡ d k → lt x (best .dist) ≡ true → record { number = k; dist = x } ≡ closer d best k
+  pub closer-wins : (x : Float) → (k ≡ absent → ⊥) → x ≡ d k → lt x (best .dist) ≡ true → record { number = k; dist = x } ≡ closer d best k
   unfolding closer
-  closer-wins x e q h = rw (ne-eqb k 65535 e, ← q, h)
+  closer-wins x e q h = rw (ne-eqb k absent e, ← q, h)
 
-  pub closer-stays : (x : Float) → (k ≡ 65535 → ⊥) → x ≡ d k → lt x (best .dist) ≡ false → best ≡ closer d best k
+  pub closer-stays : (x : Float) → (k ≡ absent → ⊥) → x ≡ d k → lt x (best .dist) ≡ false → best ≡ closer d best k
   unfolding closer
-  closer-stays x e q h = rw (ne-eqb k 65535 e, ← q, h)
+  closer-stays x e q h = rw (ne-eqb k absent e, ← q, h)
 
 abbrev test : Closest → Bool
 test b = lt (b .dist) largest32 && lt tiny32 (b .dist)
@@ -115,12 +134,9 @@ held-closer : (m : ℕ) (d : ℕ → Float) (b : Closest) (k : ℕ) → known m 
 unfolding closer
 held-closer m d b k hk h = go (eqb k absent) refl (lt (d k) (b .dist))
   where
-    ne : eqb k absent ≡ false → k ≡ absent → ⊥
-    ne e q = let w : true ≡ false = sym (eq-eqb k absent q) ∙ e in let z : _≡_ {A = ℕ} 0 1 = cc in omega arith
-
     go : (t : Bool) → eqb k absent ≡ t → (u : Bool) → Held m (cond t b (cond u (record { number = k; dist = d k }) b))
     go true e u = h
-    go false e true = record { number-in = λ q. known-in m k hk (ne e) }
+    go false e true = record { number-in = λ q. known-in m k hk (eqb-false k absent e) }
     go false e false = h
 
 pub pair-in : (m : ℕ) (d : ℕ → Float) (a b : ℕ) (first best : Closest) → first ≡ closer d nothing a → best ≡ closer d first b → known m a ≡ true → known m b ≡ true
@@ -129,10 +145,6 @@ pair-in m d a b first best e1 e2 ha hb h =
     let f : Held m first = rw e1 (held-closer m d nothing a ha (held-nothing m)) in
     let g : Held m best = rw e2 (held-closer m d first b hb f) in
     g .number-in (and-left (lt (best .dist) largest32) (lt tiny32 (best .dist)) h)
-
-pub append-none : (l : List Share) → l ≡ l ++ []
-append-none [] = refl
-append-none (x ∷ l) = ap (λ (t : List Share). x ∷ t) (append-none l)
 
 -- ---- one point more
 pub push1 : (p : Points) (s : Share) → p .count ≡ 1 → listOf (record { count = 2; a = p .a; b = s; c = p .c; d = p .d }) ≡ listOf p ++ (s ∷ [])
@@ -151,28 +163,6 @@ pub divided-list : (p : Points) (sum : Float) (a b c d : Share) → a ≡ part s
     → listOf (record { count = p .count; a = a; b = b; c = c; d = d }) ≡ map (part sum) (listOf p)
 unfolding listOf
 divided-list p sum a b c d ea eb ec ed = rw (ea, eb, ec, ed) (take-map (part sum) (p .count) (fours p))
-
-pub record Neighbors-known (m : ℕ) (s : Neighbors) : Type 0 where
-  pub a-known : known m (s .«phi_plus») ≡ true
-  pub b-known : known m (s .«phi_minus») ≡ true
-  pub c-known : known m (s .«theta_plus») ≡ true
-  pub d-known : known m (s .«theta_minus») ≡ true
-  pub e-known : known m (s .«radius_plus») ≡ true
-  pub f-known : known m (s .«radius_minus») ≡ true
-
-pub neighbors-known : (m : ℕ) (s : Neighbors) → allKnown m s ≡ true → Neighbors-known m s
-unfolding allKnown
-neighbors-known m s h =
-    let t = go (known m (s .«phi_plus»)) (known m (s .«phi_minus»)) (known m (s .«theta_plus»)) (known m (s .«theta_minus»)) (known m (s .«radius_plus»)) (known m (s .«radius_minus»)) h in
-    record { a-known = t .0; b-known = t .1; c-known = t .2; d-known = t .3; e-known = t .4; f-known = t .5 }
-  where
-    go : (a b c d e f : Bool) → (a && b && c && d && e && f) ≡ true → (a ≡ true) × (b ≡ true) × (c ≡ true) × (d ≡ true) × (e ≡ true) × (f ≡ true)
-    go a b c d e f h =
-        let h5 = and-left (a && b && c && d && e) f h in
-        let h4 = and-left (a && b && c && d) e h5 in
-        let h3 = and-left (a && b && c) d h4 in
-        let h2 = and-left (a && b) c h3 in
-        (and-left a b h2, and-right a b h2, and-right (a && b) c h3, and-right (a && b && c) d h4, and-right (a && b && c && d) e h5, and-right (a && b && c && d && e) f h)
 
 -- ---- delays
 module _ (len m r e : ℕ) where
@@ -246,10 +236,10 @@ module _ (m r n : ℕ) (resp delays : List Float) (rate : Float) (ll rl : ℕ) (
   unfolding interpolateOf weighedOf pick
   way-light x s ps t e h es g ep et ht = rw (← e, h, ← es, g, ← ep, ← et, ht)
 
-  pub way-mixed : (x : Float) (s : Neighbors) (ps : List Share) (t : Float) (qs : List Share) → x ≡ distanceOf cart q k → lt x close32 ≡ false → s ≡ neighborsOf near k → allKnown m s ≡ true
+  pub way-blended : (x : Float) (s : Neighbors) (ps : List Share) (t : Float) (qs : List Share) → x ≡ distanceOf cart q k → lt x close32 ≡ false → s ≡ neighborsOf near k → allKnown m s ≡ true
       → ps ≡ pointsOf (distanceOf cart q) s k → t ≡ totalOf ps → lt t tiny32 ≡ false → qs ≡ map (part t) ps → blendOf m r n resp delays rate ll rl qs ≡ answer
   unfolding interpolateOf weighedOf pick
-  way-mixed x s ps t qs e h es g ep et ht eq = rw (← e, h, ← es, g, ← ep, ← et, ht, ← eq)
+  way-blended x s ps t qs e h es g ep et ht eq = rw (← e, h, ← es, g, ← ep, ← et, ht, ← eq)
 
 pub silent : (d : List Float) → tailed 0 d ≡ replicate (length d) zero32
 unfolding tailed

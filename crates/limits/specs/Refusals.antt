@@ -38,40 +38,40 @@ abbrev pub placeOf : Verdict → ℕ
 placeOf Fine = 0
 placeOf (Refused number place) = place
 
--- ---- the lines
+-- ---- the lines: number | met when | place. The rest of 7, single angle calls, is the crate `angles`'; 9 is met on the way by a search
 
--- position kind is neither 0 (cartesian) nor 1 (spherical) | the kind
+-- 1 | position kind is neither 0 (cartesian) nor 1 (spherical) | the kind
 abbrev pub unknownKind : ℕ → Check
 unknownKind kind = record { number = 1; met = not (kindOk kind); place = kind }
 
--- M, C, R or N not allowed | 0
+-- 2 | M, C, R or N not allowed | 0
 abbrev pub badSizes : Sizes → Check
 badSizes s = record { number = 2; met = not (sizesOk s); place = 0 }
 
--- a lent list too short, or positions not 3M long | 0
+-- 3 | a lent list too short, or positions not 3M long | 0
 abbrev pub shortLists : Bool → Check
 shortLists fit = record { number = 3; met = not fit; place = 0 }
 
--- a position value, of the first n, not allowed | its first index
+-- 4 | a position value, of the first n, not allowed | its first index
 abbrev pub badValue : ℕ → List Float → ℕ → Check
 badValue kind xs n = record { number = 4; met = ltb (firstBad (positionOk kind) xs n) n; place = firstBad (positionOk kind) xs n }
 
--- a step not allowed | 0 angle, 1 radius
+-- 5 | a step not allowed | 0 angle, 1 radius
 abbrev pub badAngleStep : Float → Check
 badAngleStep x = record { number = 5; met = not (angleStepOk x); place = 0 }
 
 abbrev pub badRadiusStep : Float → Check
 badRadiusStep x = record { number = 5; met = not (radiusStepOk x); place = 1 }
 
--- the rate not allowed | 0
+-- 6 | the rate not allowed | 0
 abbrev pub badRate : Float → Check
 badRate x = record { number = 6; met = not (rateOk x); place = 0 }
 
--- a query coordinate not finite | axis
+-- 7 | a query coordinate not finite | axis
 abbrev pub notFinite : ℕ → Float → Check
 notFinite axis x = record { number = 7; met = not (finite x); place = axis }
 
--- a measurement number at or above M | the number
+-- 8 | a measurement number at or above M | the number
 abbrev pub badNumber : Sizes → ℕ → Check
 badNumber s number = record { number = 8; met = leb (s .m) number; place = number }
 

@@ -170,7 +170,8 @@ impl Lookup {
         requires { ⌜ (0 < m) × (3 * m ≤ length (now cartesian)) × (m ≤ length (now left)) × (m ≤ length (now right)) × (m ≤ 16384) ⌝ }
         ensures { λ r. ⌜ r ≡ locateOf self m (now (cartesian .entry)) (now (left .entry)) (now (right .entry)) q ⌝ }
     {
-        self.nearest(m, cartesian, left, right, self.normalize_radius(q))
+        let p = self.normalize_radius(q);
+        self.nearest(m, cartesian, left, right, p)
     }
 
     // The measurement nearest to the clamped query, or refusal 2, 3, 7 or 9.

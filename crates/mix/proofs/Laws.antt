@@ -3,7 +3,7 @@
 use Prim.Native.Nat.{ℕ, zero, suc, _+_, _-_, _*_, _≤_, _<_}
 use mathlib.Core.Path.{_≡_, refl, sym, ap, _∙_}
 use mathlib.Core.Bool.{Bool, true, false, cond}
-use mathlib.Core.List.{List, [], _∷_, _++_, append-assoc}
+use mathlib.Core.List.{List, [], _∷_, _++_, append-assoc, append-nil}
 use native.Mathlib.Nat.{le-of-lt, le-refl, mul-le-mul, mul-le-mul-right, suc-mul}
 use native.Mathlib.Omega.{arith}
 use lib.Dec.{ltb}
@@ -38,10 +38,6 @@ product2 k r e n hk hr he hn =
 
 -- ---- a list of values: the same ones, more of them, and those of a part
 module _ {A : Type 0} where
-  pub append-nil : (l : List A) → l ++ [] ≡ l
-  append-nil [] = refl
-  append-nil (x ∷ l) = ap (λ (t : List A). x ∷ t) (append-nil l)
-
   pub upto-same : (f g : ℕ → A) (n : ℕ) → ((i : ℕ) → i < n → f i ≡ g i) → upto f n ≡ upto g n
   unfolding upto
   upto-same f g zero h = refl

@@ -1,7 +1,7 @@
 -- The points of a blend and the sum of their weights: the source's are the port's. Assumes nothing.
 use mathlib.Core.Path.{_≡_, refl, sym, ap, _∙_, subst}
 use mathlib.Core.Bool.{Bool, true, false, cond, _&&_}
-use mathlib.Core.List.{List, [], _∷_, _++_, map}
+use mathlib.Core.List.{List, [], _∷_, _++_, map, append-nil}
 use Prim.Native.Nat.{ℕ, _+_, _-_, _*_, _<_, _≤_}
 use native.Mathlib.Omega.{arith}
 use lib.Dec.{T, leb, ltb}
@@ -16,7 +16,6 @@ use Rattle.floats.proofs.Preorder.{lt-trans-f}
 use Rattle.points.specs.declared.Point3.{Point3}
 use Rattle.points.specs.Points.{pointAt, distSq}
 use Rattle.mix.specs.declared.Share.{Share}
-use Rattle.mix.proofs.Laws.{append-nil}
 use Rattle.interpolate.specs.declared.Closest.{Closest}
 use Rattle.interpolate.specs.Blend as blend
 use Rattle.interpolate.specs.Blend.{tiny32, largest32, distanceOf, nothing, shareOf, taken, pairOf, totalFrom}

@@ -6,4 +6,3 @@ pub mod Rep
 pub mod Sides
 pub mod Filled
 pub mod Demand3
-pub mod Table

@@ -1,2 +1,1 @@
 pub mod Demand3
-pub mod Table

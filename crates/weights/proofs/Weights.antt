@@ -1,21 +1,21 @@
 -- The weights of a blend: none is a NaN or negative, their sum is no less than any of them, and divided by it each lies from +0 to 1. Assumes nothing.
-use mathlib.Core.Path.{_≡_, refl, sym, ap, subst, _∙_}
+use mathlib.Core.Path.{_≡_, refl, sym, subst, _∙_}
 use mathlib.Core.Bool.{Bool, true, false, not, cond, _&&_}
 use mathlib.Core.List.{List, [], _∷_, _++_, map}
 use Prim.Native.Nat.{ℕ, zero, suc, _*_, _≤_, _<_}
 use native.Mathlib.Omega.{arith}
 use lib.IntN.{ℤ, pos}
 use lib.Dec.{T, eqb, eqb→eq, lt→ltb, ltb→lt}
-use lib.ListN.{length, length-append}
-use lib.Ieee.{Float, nan, inf, fin, Format, binary32, up, down, round, add, div, le, lt, fits, isNan, ofBits}
+use lib.ListN.{length, length-append, length-map}
+use lib.Ieee.{Float, nan, inf, fin, Format, binary32, up, down, round, sum, add, div, le, lt, fits, isNan, ofBits}
 use lib.Ieee.Fits.{add-fits, div-fits}
 use lib.Ieee.Positive.{positive}
-use borrow.Author.Tests.{eq-eqb}
+use borrow.Author.Tests.{eqb-false}
 use Rattle.floats.specs.Floats.{zero32, one32}
 use Rattle.floats.proofs.Cross.{of-taken, of-left, is-false}
 use Rattle.floats.proofs.Sign.{nonneg, round-nonneg}
 use Rattle.floats.proofs.Preorder.{number, le-refl-f, le-trans-f, le-lt-trans, lt→le, not-lt→le, le→not-lt, eq-both, zeros-eq}
-use Rattle.floats.proofs.Ops.{nonneg-number, add-nonneg, add-grows, add-grows-r}
+use Rattle.floats.proofs.Ops.{nonneg-number, add-nonneg, add-mono, add-grows, add-grows-r}
 use Rattle.floats.proofs.Ratio.{magnitude, div-le-one, div-mono}
 use Rattle.points.specs.declared.Point3.{Point3}
 use Rattle.mix.specs.declared.Share.{Share}
@@ -85,7 +85,7 @@ above-zero (suc n) e h = lt→ltb 0 (suc n) (above n)
     above : (n : ℕ) → 0 < suc n
     above n = omega arith
 
--- so 1 / d is finite for a distance of at least 1e-10, +infinity too
+-- what is at most the largest f32 is finite
 finite-below : (x : Float) → T (nonneg x) → T (le x largest32) → T (magnitude x)
 unfolding le ofBits
 finite-below nan p h = absurd p
@@ -94,43 +94,46 @@ finite-below (inf false) p h = absurd h
 finite-below (fin true m e) p h = absurd p
 finite-below (fin false m e) p h = tt
 
-most : T (le (div binary32 one32 tiny32) largest32)
-unfolding le div ofBits round
-most = tt
+-- 1 / 1e-10, which no weight exceeds
+unfoldable pub most32 : Float
+most32 = div binary32 one32 tiny32
 
 ends : T (magnitude one32) × T (positive tiny32) × T (le one32 one32)
 unfolding le ofBits
 ends = (tt, tt, tt)
 
-pub weight-finite : (d : Float) → T (nonneg d) → T (le tiny32 d) → T (magnitude (div binary32 one32 d))
-weight-finite nan p h = absurd p
-weight-finite (inf true) p h = absurd p
-weight-finite (inf false) p h = unfold div in tt
-weight-finite (fin true n e) p h = absurd p
-weight-finite (fin false n e) p h =
+pub weight-most : (d : Float) → T (nonneg d) → T (le tiny32 d) → T (le (div binary32 one32 d) most32)
+weight-most nan p h = absurd p
+weight-most (inf true) p h = absurd p
+weight-most (inf false) p h = unfold most32 div le ofBits round in tt
+weight-most (fin true n e) p h = absurd p
+weight-most (fin false n e) p h =
     let d = fin false n e in
     let q = above-zero n e (is-false (lt d tiny32) (clash (lt d tiny32) (le→not-lt tiny32 d h))) in
-    finite-below (div binary32 one32 d) (div-nonneg binary32 one32 d (ends .0) q)
-    (le-trans-f (div binary32 one32 d) (div binary32 one32 tiny32) largest32 (div-mono binary32 one32 one32 d tiny32 (ends .0) (ends .0) q (ends .1) (ends .2) h) most)
+    unfold most32 in div-mono binary32 one32 one32 d tiny32 (ends .0) (ends .0) q (ends .1) (ends .2) h
   where
     clash : (b : Bool) → T (not b) → T b → ⊥
     clash true p q = p
     clash false p q = q
 
--- ---- a share whose weight is a number, not negative; and one whose weight is finite too
+most-finite : T (le most32 largest32)
+unfolding most32 le div ofBits round
+most-finite = tt
+
+-- ---- a share whose weight is a number, not negative; and one whose weight is at most 1 / 1e-10 too
 pub record Good (p : Share) : Type 0 where
   pub sign : T (nonneg (p .weight))
   pub fit : T (fits binary32 (p .weight))
 
 pub record Sound (p : Share) : Type 0 where
   pub good : Good p
-  pub size : T (magnitude (p .weight))
+  pub most : T (le (p .weight) most32)
 
 share-good : (k : ℕ) (d : Float) → T (nonneg d) → Good (shareOf k d)
 share-good k d h = record { sign = weight-nonneg d h; fit = div-fits binary32 one32 d }
 
 share-sound : (k : ℕ) (d : Float) → T (nonneg d) → T (le tiny32 d) → Sound (shareOf k d)
-share-sound k d h b = record { good = share-good k d h; size = weight-finite d h b }
+share-sound k d h b = record { good = share-good k d h; most = weight-most d h b }
 
 each-join : {A : Type 0} (P : A → Type 0) (xs ys : List A) → Each P xs → Each P ys → Each P (xs ++ ys)
 each-join P [] ys e f = f
@@ -170,26 +173,53 @@ zero-fits = tt
 pub total-over : (ps : List Share) → Each Good ps → Each (λ (p : Share). T (le (p .weight) (totalOf ps))) ps
 total-over ps g = total-from ps zero32 tt zero-fits g
 
--- ---- a weight divided by the sum: from +0 to 1, and +0 where the sum overflows
-pub portion : (w s : Float) → T (magnitude w) → T (nonneg s) → lt s tiny32 ≡ false → T (le w s) → Portion (div binary32 w s)
-portion nan s m h t l = absurd m
-portion (inf u) s m h t l = absurd m
-portion (fin true a e) s m h t l = absurd m
-portion (fin false a e) nan m h t l = absurd h
-portion (fin false a e) (inf true) m h t l = absurd h
-portion (fin false a e) (inf false) m h t l = unfold div le in record { low = tt; high = tt }
-portion (fin false a e) (fin true n d) m h t l = absurd h
-portion (fin false a e) (fin false n d) m h t l =
-    let p = above-zero n d t in
-    record { low = div-nonneg binary32 (fin false a e) (fin false n d) m p; high = div-le-one binary32 (fin false a e) (fin false n d) m p l }
+-- ---- the sum of at most four is finite
+heap : ℕ → Float → Float
+heap zero s = s
+heap (suc n) s = heap n (add binary32 s most32)
 
-portions-by : (s : Float) (ps : List Share) → T (nonneg s) → lt s tiny32 ≡ false → Each Sound ps → Each (λ (p : Share). T (le (p .weight) s)) ps
+most-nonneg : T (nonneg most32)
+unfolding most32 div ofBits round
+most-nonneg = tt
+
+total-under : (ps : List Share) (s t : Float) → T (nonneg s) → T (nonneg t) → T (le s t) → Each Sound ps → T (le (totalFrom s ps) (heap (length ps) t))
+unfolding totalFrom heap
+total-under [] s t hs ht h e = h
+total-under (p ∷ ps) s t hs ht h e =
+    total-under ps (add binary32 s (p .weight)) (add binary32 t most32) (add-nonneg binary32 s (p .weight) hs (e .0 .good .sign)) (add-nonneg binary32 t most32 ht most-nonneg)
+    (add-mono binary32 s t (p .weight) most32 hs ht (e .0 .good .sign) most-nonneg h (e .0 .most)) (e .1)
+
+heap-finite : (n : ℕ) → n ≤ 4 → T (le (heap n zero32) largest32)
+unfolding heap most32 add div sum le ofBits round
+heap-finite zero h = tt
+heap-finite (suc zero) h = tt
+heap-finite (suc (suc zero)) h = tt
+heap-finite (suc (suc (suc zero))) h = tt
+heap-finite (suc (suc (suc (suc zero)))) h = tt
+heap-finite (suc (suc (suc (suc (suc n))))) h = absurd (omega arith)
+
+-- so a sum that is not below 1e-10 is finite and above zero
+pub total-positive : (ps : List Share) → length ps ≤ 4 → Each Sound ps → lt (totalOf ps) tiny32 ≡ false → T (positive (totalOf ps))
+total-positive ps h e t =
+    over (totalOf ps) t (finite-below (totalOf ps) (total-nonneg ps zero32 tt (goods ps e))
+    (le-trans-f (totalOf ps) (heap (length ps) zero32) largest32 (total-under ps zero32 zero32 tt tt (le-refl-f zero32 (nonneg-number zero32 tt)) e) (heap-finite (length ps) h)))
+  where
+    over : (x : Float) → lt x tiny32 ≡ false → T (magnitude x) → T (positive x)
+    over nan t m = absurd m
+    over (inf u) t m = absurd m
+    over (fin true n d) t m = absurd m
+    over (fin false n d) t m = above-zero n d t
+
+-- ---- a weight divided by the sum: from +0 to 1
+portions-by : (s : Float) (ps : List Share) → T (positive s) → Each Sound ps → Each (λ (p : Share). T (le (p .weight) s)) ps
     → Each (λ (p : Share). Portion (p .weight)) (map (part s) ps)
-portions-by s [] h t e l = tt
-portions-by s (p ∷ ps) h t e l = (portion (p .weight) s (e .0 .size) h t (l .0), portions-by s ps h t (e .1) (l .1))
+portions-by s [] h e l = tt
+portions-by s (p ∷ ps) h e l =
+    let m = finite-below (p .weight) (e .0 .good .sign) (le-trans-f (p .weight) most32 largest32 (e .0 .most) most-finite) in
+    (record { low = div-nonneg binary32 (p .weight) s m h; high = div-le-one binary32 (p .weight) s m h (l .0) }, portions-by s ps h (e .1) (l .1))
 
-pub portions : (ps : List Share) → Each Sound ps → lt (totalOf ps) tiny32 ≡ false → Each (λ (p : Share). Portion (p .weight)) (map (part (totalOf ps)) ps)
-portions ps e t = portions-by (totalOf ps) ps (total-nonneg ps zero32 tt (goods ps e)) t e (total-over ps (goods ps e))
+pub portions : (ps : List Share) → length ps ≤ 4 → Each Sound ps → lt (totalOf ps) tiny32 ≡ false → Each (λ (p : Share). Portion (p .weight)) (map (part (totalOf ps)) ps)
+portions ps h e t = portions-by (totalOf ps) ps (total-positive ps h e t) e (total-over ps (goods ps e))
 
 -- ---- the points: one to four of them
 pair-length : (d : ℕ → Float) (a b : ℕ) → length (pairOf d a b) ≤ 1
@@ -216,12 +246,9 @@ module _ (m : ℕ) (d : ℕ → Float) (h : (j : ℕ) → j < m → T (nonneg (d
   unfolding closer
   closer-nonneg b k e g = go (eqb k absent) refl (lt (d k) (b .dist))
     where
-      there : eqb k absent ≡ false → k ≡ absent → ⊥
-      there f q = let w : true ≡ false = sym (eq-eqb k absent q) ∙ f in let z : _≡_ {A = ℕ} 0 1 = cc in omega arith
-
       go : (t : Bool) → eqb k absent ≡ t → (u : Bool) → T (nonneg ((cond t b (cond u (record { number = k; dist = d k }) b)) .dist))
       go true f u = g
-      go false f true = h k (known-in m k e (there f))
+      go false f true = h k (known-in m k e (eqb-false k absent f))
       go false f false = g
 
   taken-sound : (b : Closest) → T (nonneg (b .dist)) → Each Sound (taken b)
@@ -275,10 +302,6 @@ past false false v x y z l r a b c i j ex ez e = let w : _≡_ {A = ℕ} 0 1 = c
 past false true true x y z l r a b c i j ex ez e = let w : _≡_ {A = ℕ} 0 1 = cc in absurd (omega arith)
 past false true false x y z l r a b c i j ex ez e = record { far = refl; met = refl; heavy = refl; says = e }
 
-length-map : (f : Share → Share) (ps : List Share) → length (map f ps) ≡ length ps
-length-map f [] = refl
-length-map f (p ∷ ps) = ap suc (length-map f ps)
-
 -- where the answer is blended with c points: what `Shared` says of the list of points
 pub blended : (m r n : ℕ) (resp delays : List Float) (rate : Float) (ll rl : ℕ) (cart : List Float) (near : List ℕ) (q : Point3) (k : ℕ)
     → k < m → Measured m cart q → (x y : Seconds) (c : ℕ)
@@ -290,9 +313,9 @@ blended m r n resp delays rate ll rl cart near q k hk fine x y c e =
     let ps = pointsOf d s k in
     let p = past (lt (d k) close32) (allKnown m s) (lt (totalOf ps) tiny32) (extractOf m r n resp delays rate ll rl k) (blendOf m r n resp delays rate ll rl (map (part (totalOf ps)) ps)) (refusedOf 9 0 ll rl) x y _ _ c 9 0 refl refl e in
     let good = points-sound m d (λ j b. distance-nonneg m cart q j fine b) s k hk (p .met) (p .far) in
-    let len : c ≡ length ps = sym (count (p .says)) ∙ length-map (part (totalOf ps)) ps in
+    let len : c ≡ length ps = sym (count (p .says)) ∙ length-map ps (part (totalOf ps)) in
     let bounds = points-count d s k in
-    record { count = len; one = rw len (bounds .0); four = rw len (bounds .1); over = total-over ps (goods ps good); portions = portions ps good (p .heavy) }
+    record { count = len; one = rw len (bounds .0); four = rw len (bounds .1); over = total-over ps (goods ps good); sum = total-positive ps (bounds .1) good (p .heavy); portions = portions ps (bounds .1) good (p .heavy) }
   where
     count : {a b : Seconds} {i : ℕ} → Blended a b i ≡ Blended x y c → i ≡ c
     count h = cc

@@ -1,17 +1,11 @@
 -- `angles::arc` meets its contract. Assumes nothing.
-use mathlib.Core.Path.{_≡_, refl, sym, ap, _∙_, subst}
-use mathlib.Core.Bool.{Bool, true, false}
-use lib.Ieee.{Float, ofBits}
-use Rattle.angles.proofs.Sides.{Asks, flat-of, steep-of, small-t}
+use mathlib.Core.Bool.{true, false}
+use lib.Ieee.{ofBits}
+use Rattle.angles.proofs.Sides.{flat-of, steep-of, small-t}
 use Rattle.angles.proofs.Steps.{arc-is}
 use borrow.Author.Needs.{needs}
 use Rattle.angles.proofs.arc.Statement.{statement}
 use Rattle.angles.proofs.arc.Tie as tie
-use Rattle.angles.proofs.arc.Reads as reads
-use Rattle.angles.proofs.arc.Lts as lts
-use Rattle.angles.proofs.arc_size.Reads as arc-size-reads
-use Rattle.angles.proofs.mag_of.Reads as mag-of-reads
-use Rattle.angles.proofs.ratio_of.Reads as ratio-of-reads
 
 mag-of-requires : tie.Need-mag-of-requires
 mag-of-requires c κs = search needs

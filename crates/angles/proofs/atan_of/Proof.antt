@@ -1,14 +1,10 @@
-use mathlib.Core.Path.{_≡_, refl, sym, ap, _∙_, subst}
-use mathlib.Core.Bool.{Bool, true, false}
-use lib.Ieee.{Float, ofBits, neg}
+-- `angles::atan_of` meets its contract. Assumes nothing.
+use mathlib.Core.Bool.{true, false}
+use lib.Ieee.{ofBits, neg}
 use Rattle.angles.proofs.Axis.{tan-pi, tan-zero, tan-arc, usable-of}
 use borrow.Author.Needs.{needs}
 use Rattle.angles.proofs.atan_of.Statement.{statement}
 use Rattle.angles.proofs.atan_of.Tie as tie
-use Rattle.angles.proofs.atan_of.Reads as reads
-use Rattle.angles.proofs.atan_of.Lts as lts
-use Rattle.angles.proofs.arc_best.Reads as arc-best-reads
-use Rattle.angles.proofs.behind.Reads as behind-reads
 
 behind-requires : tie.Need-behind-requires
 behind-requires c κs = search needs

@@ -1,11 +1,8 @@
-use mathlib.Core.Path.{_≡_, refl, sym, ap, _∙_, subst}
-use mathlib.Core.Bool.{Bool, true, false}
-use lib.Ieee.{Float, ofBits}
+-- `angles::behind` meets its contract. Assumes nothing.
+use lib.Ieee.{ofBits}
 use Rattle.angles.proofs.Axis.{behind-1, behind-2, behind-3}
 use Rattle.angles.proofs.behind.Statement.{statement}
 use Rattle.angles.proofs.behind.Tie as tie
-use Rattle.angles.proofs.behind.Reads as reads
-use Rattle.angles.proofs.behind.Lts as lts
 
 returns : tie.Need-returns
 unfolding ofBits

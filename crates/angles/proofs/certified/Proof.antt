@@ -1,35 +1,27 @@
 -- `angles::certified` meets its contract. Assumes nothing.
-use mathlib.Core.Path.{_≡_, refl, sym, ap, ap₂, _∙_, subst}
-use lib.Ieee.{Float, ofBits, sub, neg}
+use mathlib.Core.Path.{sym, subst}
 use Prim.Native.Nat.{ℕ, _≤_}
 use lib.Dec.{lit≤}
-use Rattle.angles.proofs.Cert.{fixed-asks, below-word, cert-yes, cert-far, cert-none}
+use lib.Ieee.{ofBits}
+use Rattle.angles.proofs.Cert.{fixed-asks, below-word, cert-yes, cert-far}
 use Rattle.angles.proofs.certified.Statement.{statement}
 use Rattle.angles.proofs.certified.Tie as tie
-use Rattle.angles.proofs.certified.Reads as reads
-use Rattle.angles.proofs.certified.Lts as lts
-use Rattle.angles.proofs.on_grid.Reads as on-grid-reads
-use Rattle.bits.proofs.fixed.Reads as fixed-reads
 
 fixed-requires : tie.Need-fixed-requires
 unfolding ofBits
-fixed-requires c κs = let a = fixed-asks (c .before .before .args .c) (c .before .if1 .taken) (c .if2 .taken) in (a .0, lit≤ tt, below-word _ (a .1))
+fixed-requires c κs = let a = fixed-asks (c .before .args .c) (c .before .pre .1 .1) (c .if1 .taken) in (a .0, lit≤ tt, below-word _ (a .1))
 
 on-grid-requires : tie.Need-on-grid-requires
 unfolding ofBits
-on-grid-requires c κs = (c .before .before .before .pre .0, (c .before .before .before .pre .1, subst (λ (z : ℕ). z ≤ 17592186044416) (sym (c .fixed .ensures)) (fixed-asks (c .before .before .before .args .c) (c .before .before .if1 .taken) (c .before .if2 .taken) .1)))
+on-grid-requires c κs = (c .before .before .pre .0, (c .before .before .pre .1 .0, subst (λ (z : ℕ). z ≤ 17592186044416) (sym (c .fixed .ensures)) (fixed-asks (c .before .before .args .c) (c .before .before .pre .1 .1) (c .before .if1 .taken) .1)))
 
 returns : tie.Need-returns
 unfolding ofBits
-returns c = cert-yes (c .before .before .before .before .args .back) (c .before .before .before .before .args .py) (c .before .before .before .before .args .px) (c .before .before .before .before .args .c) (c .before .fixed .result) (c .on-grid .result) (c .before .before .before .if1 .taken) (c .before .before .if2 .taken) (c .before .fixed .ensures) (c .on-grid .ensures)
+returns c = cert-yes (c .before .before .before .args .back) (c .before .before .before .args .py) (c .before .before .before .args .px) (c .before .before .before .args .c) (c .before .fixed .result) (c .on-grid .result) (c .before .before .if1 .taken) (c .before .fixed .ensures) (c .on-grid .ensures)
 
 returns-2 : tie.Need-returns-2
 unfolding ofBits
-returns-2 c = cert-far (c .before .before .args .back) (c .before .before .args .py) (c .before .before .args .px) (c .before .before .args .c) (c .before .if1 .taken) (c .if2 .left)
-
-returns-3 : tie.Need-returns-3
-unfolding ofBits
-returns-3 c = cert-none (c .before .args .back) (c .before .args .py) (c .before .args .px) (c .before .args .c) (c .if1 .left)
+returns-2 c = cert-far (c .before .args .back) (c .before .args .py) (c .before .args .px) (c .before .args .c) (c .if1 .left)
 
 pub certified-spec : {M : Type 1} → statement M
-certified-spec = tie.close (tie.spec fixed-requires on-grid-requires returns returns-2 returns-3)
+certified-spec = tie.close (tie.spec fixed-requires on-grid-requires returns returns-2)

@@ -1,10 +1,8 @@
 -- `angles::cos_fix` meets its contract: the calls of `level` are the levels of `nest`. Assumes nothing.
-use mathlib.Core.Path.{_≡_, refl, sym, ap, _∙_, subst}
 use native.Mathlib.Omega.{arith}
 use lib.Dec.{lit≤}
-use Rattle.angles.specs.Steps.{nest}
 use Rattle.angles.specs.Steps.{cosFix}
-use Rattle.angles.proofs.Bounds.{square-mul, square-le, sin-mul, sin-le}
+use Rattle.angles.proofs.Bounds.{square-mul, square-le, level-le}
 use Rattle.angles.proofs.cos_fix.Statement.{statement}
 use Rattle.angles.proofs.cos_fix.Tie as tie
 
@@ -15,29 +13,29 @@ level-requires : tie.Need-level-requires
 level-requires c κs = (square-le (c .args .a) (c .pre), ((lit≤ tt), lit≤ tt))
 
 level-requires-2 : tie.Need-level-requires-2
-level-requires-2 c κs = (square-le (c .before .args .a) (c .before .pre), ((c .level .ensures .1), lit≤ tt))
+level-requires-2 c κs = (square-le (c .before .args .a) (c .before .pre), ((level-le _ _ _ _ (c .level .ensures)), lit≤ tt))
 
 level-requires-3 : tie.Need-level-requires-3
-level-requires-3 c κs = (square-le (c .before .before .args .a) (c .before .before .pre), ((c .level2 .ensures .1), lit≤ tt))
+level-requires-3 c κs = (square-le (c .before .before .args .a) (c .before .before .pre), ((level-le _ _ _ _ (c .level2 .ensures)), lit≤ tt))
 
 level-requires-4 : tie.Need-level-requires-4
-level-requires-4 c κs = (square-le (c .before .before .before .args .a) (c .before .before .before .pre), ((c .level3 .ensures .1), lit≤ tt))
+level-requires-4 c κs = (square-le (c .before .before .before .args .a) (c .before .before .before .pre), ((level-le _ _ _ _ (c .level3 .ensures)), lit≤ tt))
 
 level-requires-5 : tie.Need-level-requires-5
-level-requires-5 c κs = (square-le (c .before .before .before .before .args .a) (c .before .before .before .before .pre), ((c .level4 .ensures .1), lit≤ tt))
+level-requires-5 c κs = (square-le (c .before .before .before .before .args .a) (c .before .before .before .before .pre), ((level-le _ _ _ _ (c .level4 .ensures)), lit≤ tt))
 
 level-requires-6 : tie.Need-level-requires-6
-level-requires-6 c κs = (square-le (c .before .before .before .before .before .args .a) (c .before .before .before .before .before .pre), ((c .level5 .ensures .1), lit≤ tt))
+level-requires-6 c κs = (square-le (c .before .before .before .before .before .args .a) (c .before .before .before .before .before .pre), ((level-le _ _ _ _ (c .level5 .ensures)), lit≤ tt))
 
 level-requires-7 : tie.Need-level-requires-7
-level-requires-7 c κs = (square-le (c .before .before .before .before .before .before .args .a) (c .before .before .before .before .before .before .pre), ((c .level6 .ensures .1), lit≤ tt))
+level-requires-7 c κs = (square-le (c .before .before .before .before .before .before .args .a) (c .before .before .before .before .before .before .pre), ((level-le _ _ _ _ (c .level6 .ensures)), lit≤ tt))
 
 mul-result : tie.Need-mul-result
 mul-result c = omega arith
 
 returns : tie.Need-returns
 unfolding cosFix
-returns c = (cc, omega (arith, c .level7 .ensures .1))
+returns c = cc
 
 pub cos-fix-spec : {M : Type 1} → statement M
 cos-fix-spec = tie.close (tie.spec mul-t level-requires level-requires-2 level-requires-3 level-requires-4 level-requires-5 level-requires-6 level-requires-7 mul-result returns)

@@ -1,40 +1,46 @@
-use mathlib.Core.Path.{_≡_, refl, sym, ap, _∙_, subst}
-use Prim.Native.Nat.{ℕ, _≤_, _<_}
-use lib.Ieee.{Float, ofBits}
-use Rattle.angles.specs.Steps.{rest}
-use Rattle.angles.specs.Sines.{cosFrom}
-use Rattle.angles.proofs.Scan.{rest-lt}
+-- `angles::cos_from` meets its contract. Assumes nothing.
+use mathlib.Core.Path.{sym, subst}
+use Prim.Native.Nat.{ℕ, _≤_}
+use native.Mathlib.Omega.{arith}
+use lib.Dec.{lit≤}
 use borrow.Author.Needs.{needs}
+use Rattle.angles.proofs.Cert.{below-word}
+use Rattle.angles.proofs.Scan.{scan-le}
+use Rattle.angles.proofs.Waves.{cos-is}
 use Rattle.angles.proofs.cos_from.Statement.{statement}
 use Rattle.angles.proofs.cos_from.Tie as tie
-use Rattle.angles.proofs.cos_from.Reads as reads
-use Rattle.angles.proofs.cos_from.Lts as lts
-use Rattle.angles.proofs.rest_64.Reads as rest-64-reads
-use Rattle.angles.proofs.cos_step.Reads as cos-step-reads
-use Rattle.angles.proofs.eighth.Reads as eighth-reads
-use Rattle.angles.proofs.rest_of.Reads as rest-of-reads
+
+fixed-requires : tie.Need-fixed-requires
+fixed-requires c κs = (c .pre .0, lit≤ tt, below-word _ (c .pre .1))
+
+small : (c : tie.After-fixed) → c .fixed .result ≤ 17592186044416
+small c = subst (λ (z : ℕ). z ≤ 17592186044416) (sym (c .fixed .ensures)) (c .before .pre .1)
+
+few : (c : tie.After-eighth) → c .eighth .result ≤ 20
+few c = scan-le (c .before .fixed .result) (c .eighth .result) (small (c .before)) (c .eighth .ensures)
 
 eighth-requires : tie.Need-eighth-requires
-eighth-requires c κs = search needs
+eighth-requires c κs = small c
 
-rest-of-requires : tie.Need-rest-of-requires
-rest-of-requires c κs = search needs
-
-add-cos-step : tie.Need-add-cos-step
-add-cos-step c = search needs
+add-k : tie.Need-add-k
+add-k c = let h = few c in omega arith
 
 rest-64-requires : tie.Need-rest-64-requires
-rest-64-requires c κs = search needs
+rest-64-requires c κs = few c
 
-cos-step-requires : tie.Need-cos-step-requires
-cos-step-requires c κs =
-    subst (λ (z : ℕ). z < 17179869184) (sym (c .before .rest-of .ensures))
-    (subst (λ (q : ℕ). rest q (c .before .before .before .args .x) < 17179869184) (sym (c .before .before .eighth .ensures .0)) (rest-lt (c .before .before .before .args .x) (c .before .before .before .pre)))
+cos-value-requires : tie.Need-cos-value-requires
+cos-value-requires c κs = search needs
+
+cos-minus-requires : tie.Need-cos-minus-requires
+cos-minus-requires c κs = search needs
+
+rounded-requires : tie.Need-rounded-requires
+rounded-requires c κs = search needs
 
 returns : tie.Need-returns
-unfolding cosFrom
-returns c = cc
+returns c = cos-is (c .before .before .before .before .before .before .args .a) (c .before .before .before .before .before .fixed .result) (c .before .before .before .before .eighth .result) (c .before .before .before .rest-64 .result) (c .before .before .before .before .before .fixed .ensures) (c .before .before .before .before .eighth .ensures) (c .before .before .before .rest-64 .ensures) (c .before .cos-minus .result) (c .before .before .cos-value .result) (c .rounded .result) (c .before .before .cos-value .ensures) (c .before .cos-minus .ensures) (c .rounded .ensures)
 
 pub cos-from-spec : {M : Type 1} → statement M
 cos-from-spec =
-    tie.close (tie.spec eighth-requires rest-of-requires add-cos-step rest-64-requires cos-step-requires returns)
+    tie.close
+    (tie.spec fixed-requires eighth-requires add-k rest-64-requires cos-value-requires cos-minus-requires rounded-requires returns)

@@ -1,5 +1,5 @@
 -- `angles::in_range` meets its contract. Assumes nothing.
-use mathlib.Core.Path.{_≡_, refl}
+use mathlib.Core.Path.{refl}
 use lib.Ieee.{ofBits, neg}
 use Rattle.angles.proofs.in_range.Statement.{statement}
 use Rattle.angles.proofs.in_range.Tie as tie

@@ -1,37 +1,35 @@
 -- `angles::on_grid` meets its contract. Assumes nothing.
-use mathlib.Core.Path.{_≡_, refl, sym, ap, ap₂, _∙_, subst}
+use mathlib.Core.Path.{sym, subst}
 use Prim.Native.Nat.{ℕ, _<_}
 use Rattle.angles.specs.Steps.{rest}
 use Rattle.angles.specs.Arc.{gridTest}
-use Rattle.angles.proofs.Scan.{rest-lt}
+use Rattle.angles.proofs.Scan.{rest-lt, scan-le}
+use Rattle.angles.proofs.Bounds.{sin-got, cos-got}
+use native.Mathlib.Omega.{arith}
 use borrow.Author.Needs.{needs}
 use Rattle.angles.proofs.on_grid.Statement.{statement}
 use Rattle.angles.proofs.on_grid.Tie as tie
-use Rattle.angles.proofs.on_grid.Reads as reads
-use Rattle.angles.proofs.on_grid.Lts as lts
-use Rattle.angles.proofs.cos_fix.Reads as cos-fix-reads
-use Rattle.angles.proofs.eighth.Reads as eighth-reads
-use Rattle.angles.proofs.on_turn.Reads as on-turn-reads
-use Rattle.angles.proofs.rest_of.Reads as rest-of-reads
-use Rattle.angles.proofs.sin_fix.Reads as sin-fix-reads
 
 eighth-requires : tie.Need-eighth-requires
 eighth-requires c κs = search needs
 
 rest-of-requires : tie.Need-rest-of-requires
-rest-of-requires c κs = search needs
+rest-of-requires c κs = (scan-le (c .before .args .x) (c .eighth .result) (c .before .pre .1 .1) (c .eighth .ensures), c .before .pre .1 .1)
 
 add-on-turn : tie.Need-add-on-turn
-add-on-turn c = search needs
+add-on-turn c = let h = scan-le (c .before .before .args .x) (c .before .eighth .result) (c .before .before .pre .1 .1) (c .before .eighth .ensures) in omega arith
+
+small : (c : tie.After-rest-of) → c .rest-of .result < 17179869184
+small c = subst (λ (z : ℕ). z < 17179869184) (sym (c .rest-of .ensures)) (subst (λ (q : ℕ). rest q (c .before .before .args .x) < 17179869184) (sym (c .before .eighth .ensures)) (rest-lt (c .before .before .args .x) (c .before .before .pre .1 .1)))
 
 sin-fix-requires : tie.Need-sin-fix-requires
-sin-fix-requires c κs = subst (λ (z : ℕ). z < 17179869184) (sym (c .rest-of .ensures)) (subst (λ (q : ℕ). rest q (c .before .before .args .x) < 17179869184) (sym (c .before .eighth .ensures .0)) (rest-lt (c .before .before .args .x) (c .before .before .pre .1 .1)))
+sin-fix-requires c κs = small c
 
 cos-fix-requires : tie.Need-cos-fix-requires
-cos-fix-requires c κs = subst (λ (z : ℕ). z < 17179869184) (sym (c .before .rest-of .ensures)) (subst (λ (q : ℕ). rest q (c .before .before .before .args .x) < 17179869184) (sym (c .before .before .eighth .ensures .0)) (rest-lt (c .before .before .before .args .x) (c .before .before .before .pre .1 .1)))
+cos-fix-requires c κs = small (c .before)
 
 on-turn-requires : tie.Need-on-turn-requires
-on-turn-requires c κs = search needs
+on-turn-requires c κs = (c .before .before .before .before .pre .0, (c .before .before .before .before .pre .1 .0, (sin-got _ (c .before .sin-fix .result) (small (c .before .before)) (c .before .sin-fix .ensures), cos-got _ (c .cos-fix .result) (c .cos-fix .ensures))))
 
 returns : tie.Need-returns
 unfolding gridTest

@@ -1,40 +1,49 @@
-use mathlib.Core.Path.{_≡_, refl, sym, ap, _∙_, subst}
-use Prim.Native.Nat.{ℕ, _≤_, _<_}
-use lib.Ieee.{Float, ofBits}
-use Rattle.angles.specs.Steps.{rest}
-use Rattle.angles.specs.Sines.{sinFrom}
-use Rattle.angles.proofs.Scan.{rest-lt}
+-- `angles::sin_from` meets its contract. Assumes nothing.
+use mathlib.Core.Path.{sym, subst}
+use Prim.Native.Nat.{ℕ, _≤_}
+use native.Mathlib.Omega.{arith}
+use lib.Dec.{lit≤}
 use borrow.Author.Needs.{needs}
+use Rattle.angles.proofs.Cert.{below-word}
+use Rattle.angles.proofs.Scan.{scan-le}
+use Rattle.angles.proofs.Waves.{sin-is}
 use Rattle.angles.proofs.sin_from.Statement.{statement}
 use Rattle.angles.proofs.sin_from.Tie as tie
-use Rattle.angles.proofs.sin_from.Reads as reads
-use Rattle.angles.proofs.sin_from.Lts as lts
-use Rattle.angles.proofs.eighth.Reads as eighth-reads
-use Rattle.angles.proofs.rest_of.Reads as rest-of-reads
-use Rattle.angles.proofs.rest_64.Reads as rest-64-reads
-use Rattle.angles.proofs.sin_step.Reads as sin-step-reads
+
+fixed-requires : tie.Need-fixed-requires
+fixed-requires c κs = (c .pre .0, lit≤ tt, below-word _ (c .pre .1))
+
+small : (c : tie.After-fixed) → c .fixed .result ≤ 17592186044416
+small c = subst (λ (z : ℕ). z ≤ 17592186044416) (sym (c .fixed .ensures)) (c .before .pre .1)
+
+few : (c : tie.After-eighth) → c .eighth .result ≤ 20
+few c = scan-le (c .before .fixed .result) (c .eighth .result) (small (c .before)) (c .eighth .ensures)
 
 eighth-requires : tie.Need-eighth-requires
-eighth-requires c κs = search needs
+eighth-requires c κs = small c
 
-rest-of-requires : tie.Need-rest-of-requires
-rest-of-requires c κs = search needs
-
-add-sin-step : tie.Need-add-sin-step
-add-sin-step c = search needs
+add-k : tie.Need-add-k
+add-k c = let h = few c in omega arith
 
 rest-64-requires : tie.Need-rest-64-requires
-rest-64-requires c κs = search needs
+rest-64-requires c κs = few c
 
-sin-step-requires : tie.Need-sin-step-requires
-sin-step-requires c κs =
-    subst (λ (z : ℕ). z < 17179869184) (sym (c .before .rest-of .ensures))
-    (subst (λ (q : ℕ). rest q (c .before .before .before .args .x) < 17179869184) (sym (c .before .before .eighth .ensures .0)) (rest-lt (c .before .before .before .args .x) (c .before .before .before .pre)))
+sin-value-requires : tie.Need-sin-value-requires
+sin-value-requires c κs = search needs
+
+sin-minus-requires : tie.Need-sin-minus-requires
+sin-minus-requires c κs = search needs
+
+differ-requires : tie.Need-differ-requires
+differ-requires c κs = search needs
+
+rounded-requires : tie.Need-rounded-requires
+rounded-requires c κs = search needs
 
 returns : tie.Need-returns
-unfolding sinFrom
-returns c = cc
+returns c = sin-is (c .before .before .before .before .before .before .before .args .a) (c .before .before .before .before .before .before .fixed .result) (c .before .before .before .before .before .eighth .result) (c .before .before .before .before .rest-64 .result) (c .before .before .before .before .before .before .fixed .ensures) (c .before .before .before .before .before .eighth .ensures) (c .before .before .before .before .rest-64 .ensures) (c .before .before .before .before .before .before .before .args .minus) (c .before .before .sin-minus .result) (c .before .differ .result) (c .before .before .before .sin-value .result) (c .rounded .result) (c .before .before .before .sin-value .ensures) (c .before .before .sin-minus .ensures) (c .before .differ .ensures) (c .rounded .ensures)
 
 pub sin-from-spec : {M : Type 1} → statement M
 sin-from-spec =
-    tie.close (tie.spec eighth-requires rest-of-requires add-sin-step rest-64-requires sin-step-requires returns)
+    tie.close
+    (tie.spec fixed-requires eighth-requires add-k rest-64-requires sin-value-requires sin-minus-requires differ-requires rounded-requires returns)

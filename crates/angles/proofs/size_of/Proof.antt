@@ -1,11 +1,8 @@
-use mathlib.Core.Path.{_≡_, refl, sym, ap, _∙_, subst}
-use Prim.Native.Nat.{ℕ, _≤_, _<_}
-use lib.Ieee.{Float, ofBits}
+-- `angles::size_of` meets its contract. Assumes nothing.
+use lib.Ieee.{ofBits}
 use Rattle.angles.specs.Sines.{absf}
 use Rattle.angles.proofs.size_of.Statement.{statement}
 use Rattle.angles.proofs.size_of.Tie as tie
-use Rattle.angles.proofs.size_of.Reads as reads
-use Rattle.angles.proofs.size_of.Lts as lts
 
 returns : tie.Need-returns
 unfolding absf ofBits

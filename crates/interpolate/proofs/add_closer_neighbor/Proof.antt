@@ -1,14 +1,14 @@
 -- `interpolate::add_closer_neighbor` meets its contract: the closest of the pair is pushed where it is taken. Assumes nothing.
 use Prim.Native.Nat.{ℕ}
 use mathlib.Core.Path.{sym, ap, _∙_}
-use mathlib.Core.List.{List, _++_}
+use mathlib.Core.List.{List, _++_, append-nil}
 use native.Mathlib.Omega.{arith}
 use denote.Ref.{now}
 use lib.Ieee.{Float, ofBits}
 use Rattle.mix.specs.declared.Share.{Share}
 use Rattle.mix.specs.Mix.{listOf}
 use Rattle.interpolate.specs.Blend.{distanceOf}
-use Rattle.interpolate.proofs.Laws.{pair-yes, pair-no, pair-in, append-none}
+use Rattle.interpolate.proofs.Laws.{pair-yes, pair-no, pair-in}
 use borrow.Author.Needs.{needs}
 use Rattle.interpolate.proofs.add_closer_neighbor.Statement.{statement}
 use Rattle.interpolate.proofs.add_closer_neighbor.Tie as tie
@@ -45,7 +45,7 @@ returns-2 c =
     let f = two .before .nearer in
     let b = two .nearer2 in
     let d : ℕ → Float = distanceOf (now (a .cartesian)) (a .position) in (
-      append-none (listOf (a .p)) ∙ ap (λ (l : List Share). listOf (a .p) ++ l) (sym (pair-no d (a .a) (a .b) (f .result) (b .result) (f .ensures) (b .ensures) (c .if1 .left))),
+      sym (append-nil (listOf (a .p))) ∙ ap (λ (l : List Share). listOf (a .p) ++ l) (sym (pair-no d (a .a) (a .b) (f .result) (b .result) (f .ensures) (b .ensures) (c .if1 .left))),
       s .pre .0,
       omega arith,
     )

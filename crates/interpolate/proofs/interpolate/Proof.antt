@@ -3,7 +3,7 @@ use mathlib.Core.Path.{sym, _∙_}
 use denote.Ref.{now}
 use lib.ListN.{length}
 use Rattle.mix.specs.Mix.{listOf}
-use Rattle.interpolate.proofs.Laws.{way-close, way-light, way-mixed, way-refused}
+use Rattle.interpolate.proofs.Laws.{way-close, way-light, way-blended, way-refused}
 use borrow.Author.Needs.{needs}
 use Rattle.interpolate.proofs.interpolate.Statement.{statement}
 use Rattle.interpolate.proofs.interpolate.Tie as tie
@@ -88,7 +88,7 @@ returns-3 c =
     let t = c .before .before .before .before .before .before .before .before .before in
     let v = c .before .before .before .before .before .before .before in
     c .before .before .before .before .blend .ensures
-    ∙ way-mixed (a .m) (a .r) (a .n) (now (a .responses)) (now (a .delays)) (a .rate) (length (now (a .left))) (length (now (a .right))) (now (a .cartesian)) (now (a .neighbours)) (a .position) (a .nearest) (d .distance .result) (e .entries .result) (listOf (g .gather .result)) (t .total .result) (listOf (v .divided .result)) (d .distance .ensures) (c .before .before .before .before .before .before .before .before .before .before .before .before .before .before .if1 .left) (e .entries .ensures) (sym (w .all-known .ensures) ∙ c .before .before .before .before .before .before .before .before .before .before .before .if2 .taken) (g .gather .ensures .0) (t .total .ensures) (c .before .before .before .before .before .before .before .before .if3 .left) (v .divided .ensures .0)
+    ∙ way-blended (a .m) (a .r) (a .n) (now (a .responses)) (now (a .delays)) (a .rate) (length (now (a .left))) (length (now (a .right))) (now (a .cartesian)) (now (a .neighbours)) (a .position) (a .nearest) (d .distance .result) (e .entries .result) (listOf (g .gather .result)) (t .total .result) (listOf (v .divided .result)) (d .distance .ensures) (c .before .before .before .before .before .before .before .before .before .before .before .before .before .before .if1 .left) (e .entries .ensures) (sym (w .all-known .ensures) ∙ c .before .before .before .before .before .before .before .before .before .before .before .if2 .taken) (g .gather .ensures .0) (t .total .ensures) (c .before .before .before .before .before .before .before .before .if3 .left) (v .divided .ensures .0)
 
 refuse-requires : tie.Need-refuse-requires
 refuse-requires c κs = search needs

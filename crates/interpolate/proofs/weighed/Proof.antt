@@ -11,52 +11,52 @@ use Rattle.interpolate.proofs.weighed.Statement.{statement}
 use Rattle.interpolate.proofs.weighed.Tie as tie
 
 mul-a : tie.Need-mul-a
-mul-a c = search needs
+mul-a c = omega arith
 
 add-a : tie.Need-add-a
-add-a c = search needs
+add-a c = omega arith
 
 mul-a-2 : tie.Need-mul-a-2
-mul-a-2 c = search needs
+mul-a-2 c = omega arith
 
 shared-slice-read-a : tie.Need-shared-slice-read-a
-shared-slice-read-a c = search needs
+shared-slice-read-a c = omega arith
 
 mul-b : tie.Need-mul-b
-mul-b c = search needs
+mul-b c = omega arith
 
 add-b : tie.Need-add-b
-add-b c = search needs
+add-b c = omega arith
 
 mul-b-2 : tie.Need-mul-b-2
-mul-b-2 c = search needs
+mul-b-2 c = omega arith
 
 shared-slice-read-b : tie.Need-shared-slice-read-b
-shared-slice-read-b c = search needs
+shared-slice-read-b c = omega arith
 
 mul-c : tie.Need-mul-c
-mul-c c = search needs
+mul-c c = omega arith
 
 add-c : tie.Need-add-c
-add-c c = search needs
+add-c c = omega arith
 
 mul-c-2 : tie.Need-mul-c-2
-mul-c-2 c = search needs
+mul-c-2 c = omega arith
 
 shared-slice-read-c : tie.Need-shared-slice-read-c
-shared-slice-read-c c = search needs
+shared-slice-read-c c = omega arith
 
 mul-d : tie.Need-mul-d
-mul-d c = search needs
+mul-d c = omega arith
 
 add-d : tie.Need-add-d
-add-d c = search needs
+add-d c = omega arith
 
 mul-d-2 : tie.Need-mul-d-2
-mul-d-2 c = search needs
+mul-d-2 c = omega arith
 
 shared-slice-read-d : tie.Need-shared-slice-read-d
-shared-slice-read-d c = search needs
+shared-slice-read-d c = omega arith
 
 returns : tie.Need-returns
 unfolding sums ofBits

@@ -1,0 +1,13 @@
+-- `angles::sin_poly` meets its contract. Assumes nothing.
+use mathlib.Core.Path.{refl}
+use lib.Ieee.{sub, ofBits}
+use Rattle.angles.specs.Sines.{sinPoly}
+use Rattle.angles.proofs.sin_poly.Statement.{statement}
+use Rattle.angles.proofs.sin_poly.Tie as tie
+
+returns : tie.Need-returns
+unfolding sub ofBits sinPoly
+returns c = refl
+
+pub sin-poly-spec : {M : Type 1} → statement M
+sin-poly-spec = tie.close (tie.spec returns)

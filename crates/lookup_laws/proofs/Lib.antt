@@ -1,0 +1,4 @@
+pub mod Answered
+pub mod Loaded
+pub mod Nearest
+pub mod Clamp

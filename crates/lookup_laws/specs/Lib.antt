@@ -1,0 +1,2 @@
+pub mod Loaded
+pub mod Clamp

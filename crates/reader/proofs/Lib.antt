@@ -1,0 +1,3 @@
+pub mod Near
+pub mod Ways
+pub mod Parts
