@@ -15,3 +15,4 @@ pub mod Blend
 pub mod Interpolate
 pub mod Rows
 pub mod Same
+pub mod Calls

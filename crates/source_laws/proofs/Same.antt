@@ -113,6 +113,7 @@ module _ (n r t : ℕ) (xs : List Float) (left right near : List ℕ) (resp dela
       let b = six-same xs (suc n) in
       record {
         sofar = built;
+        of-set = refl;
         opens = opens;
         tree = root-same xs n ∙ ap (λ (z : Tree). boxed (λ i. i) z 0) (sym (drawn-is xs n left right (L .most) holds));
         box = boxBy xs n;

@@ -1,3 +1,4 @@
 pub mod Drawn
 pub mod Bare
 pub mod Same
+pub mod Calls

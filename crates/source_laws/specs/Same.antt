@@ -1,8 +1,7 @@
 -- DEMAND 2 on one page: what a loaded set answers is what the source answers. Definitions only; the theorem `same` is in proofs/Same.antt.
 -- The source's side is the crate source's, the port's side the definitions that the contracts cite. All is bit for bit; NaN is one value. Where `min` and
 -- `max` meet +0 and -0, Rust leaves the sign open: the transcription keeps the earlier, as document 01 has it, so the statement is about a Rust that does so.
--- Not yet in it: what `load` itself copies or converts and refuses, and the rows of the reader's calls, max_delay among them (their checks come first, and
--- then they are the clauses below at the number found).
+-- The reader's calls, whose checks come first, are in specs/Calls.antt. Not yet in either: what `load` itself copies or converts, and refuses.
 use mathlib.Core.Path.{_≡_}
 use mathlib.Core.List.{List}
 use Prim.Native.Nat.{ℕ, _*_, _≤_, _<_}
@@ -87,6 +86,7 @@ plain s out k = extractOf (s .m) (s .r) (s .n) (s .responses) (s .delays) (s .ra
 pub record SameAsSource (s : Set) : Type 0 where
   -- the source opens the set
   pub sofar : Sofar
+  pub of-set : sofar .hrtf ≡ hrtf s
   pub opens : opened ported (hrtf s) (s .angle) (s .radius) ≡ Some sofar
   -- its tree, node by node: the links draw it, each measurement's number being its place
   pub tree : sofar .lookup .kdtree .root ≡ boxed (λ i. i) (subtree (s .left) (s .right) (s .cartesian) (s .m) (s .m) 0) 0
