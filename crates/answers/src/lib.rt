@@ -1,14 +1,13 @@
 // What a set in the text form answers, over the lists that its lines filled: `load` after its last line, and the block of each query.
 //
-// `load` equals `setOf`, `nearest` equals `nearestOf` and `ask` equals `filteredOf` (specs/Answers.antt), each by the definitions of crates
-// `loads`, `lookup` and `reader`; `answerOf` puts the last two into a block.
+// `load` equals `setOf` and `answer` writes `answerOf` (specs/Answers.antt), by the definitions of crates `loads`, `lookup`, `reader` and `blocks`.
 ghost use mathlib.Core.Path.{_≡_};
 ghost use Prim.Native.Nat.{_+_, _*_, _≤_};
 ghost use lib.ListN.{length};
 ghost use Rattle.lists.specs.Over.{over};
 ghost use Rattle.interpolate.specs.Blend.{filterOf};
 ghost use Rattle.loads.specs.Load.{workOf, loadAs};
-ghost use Rattle.answers.specs.Answers.{sizesIn, setOf, nearestOf, filteredOf};
+ghost use Rattle.answers.specs.Answers.{sizesIn, setOf, nearestOf, filteredOf, answerOf};
 use delays::Outcome;
 use limits::Sizes;
 use loads::Loaded;
@@ -58,7 +57,7 @@ pub fn load(
     )
 }
 
-pub fn nearest(
+fn nearest(
     s: State,
     look: Lookup,
     cartesian: &[f32],
@@ -76,7 +75,7 @@ pub fn nearest(
 }
 
 // The filter at a query; both outputs are n values long.
-pub fn ask(
+fn ask(
     s: State,
     look: Lookup,
     cartesian: &[f32],
@@ -108,4 +107,40 @@ pub fn ask(
         out_left,
         out_right,
     )
+}
+
+// The block of a query at the front of out: how many bytes it has. Both outputs are n values long, and are written over.
+pub fn answer(
+    s: State,
+    look: Lookup,
+    cartesian: &[f32],
+    left: &[u16],
+    right: &[u16],
+    neighbours: &[u16],
+    responses: &[f32],
+    delays: &[f32],
+    q: Point3,
+    out_left: &mut [f32],
+    out_right: &mut [f32],
+    out: &mut [u8],
+) -> usize
+    requires { ⌜ (s .delays ≤ length (now delays)) × (length (now «out_left») ≡ s .n) × (length (now «out_right») ≡ s .n) × (18 * (s .n) + 120 ≤ length (now out)) ⌝ }
+    ensures { λ r. ⌜ (r ≡ length (answerOf s look (workOf (now (left .entry)) (now (right .entry)) (now (neighbours .entry)) (now (cartesian .entry))) (now (responses .entry)) (now (delays .entry)) q))
+        × (now (out .exit) ≡ over (answerOf s look (workOf (now (left .entry)) (now (right .entry)) (now (neighbours .entry)) (now (cartesian .entry))) (now (responses .entry)) (now (delays .entry)) q) (now (out .entry))) ⌝ }
+{
+    let number = nearest(s, look, cartesian, left, right, neighbours, q);
+    let outcome = ask(
+        s,
+        look,
+        cartesian,
+        left,
+        right,
+        neighbours,
+        responses,
+        delays,
+        q,
+        out_left,
+        out_right,
+    );
+    blocks::block(outcome, number, out_left, out_right, out)
 }
