@@ -1,0 +1,38 @@
+-- What a set in the text form answers: its load after the last line of the set, and the block of each query. Definitions only.
+use Prim.Native.Nat.{ℕ, _*_}
+use mathlib.Core.List.{List}
+use lib.ListN.{take, length}
+use lib.Ieee.{Float}
+use Rattle.points.specs.declared.Point3.{Point3}
+use Rattle.limits.specs.declared.Sizes.{Sizes}
+use Rattle.lookup.specs.declared.Lookup.{Lookup}
+use Rattle.lookup.specs.Lookup.{findOf}
+use Rattle.interpolate.specs.Blend.{Filter}
+use Rattle.reader.specs.Queries.{filterSays}
+use Rattle.loads.specs.Load.{Work, Load, loadOf, numberIn}
+use Rattle.blocks.specs.Blocks.{blockOf}
+use Rattle.settext.specs.declared.State.{State}
+
+-- the sizes that the keys said, with three coordinates to a position
+abbrev pub sizesIn : State → Sizes
+sizesIn s = record { m = s .m; c = 3; r = s .r; n = s .n }
+
+-- the load of the set: its first 3m positions, over a response list of this length
+unfoldable pub setOf : State → List Float → ℕ → Work → Load
+setOf s positions responses d = loadOf (s .kind) (sizesIn s) (take (3 * s .m) positions) responses (s .astep) (s .rstep) (s .rate) d
+
+-- the number of the measurement nearest to a query; refused, it is not printed
+unfoldable pub nearestOf : State → Lookup → Work → Point3 → ℕ
+nearestOf s look d q = numberIn (findOf look (sizesIn s) (d .cartesian) (d .left) (d .right) q)
+
+-- the filter at a query, with outputs of n values
+unfoldable pub filteredOf : State → Lookup → Work → List Float → List Float → Point3 → Filter
+filteredOf s look d responses delays q =
+    filterSays (sizesIn s) look (d .cartesian) (d .left) (d .right) (d .neighbours) responses (take (s .delays) delays) (s .rate) q (s .n) (s .n)
+
+abbrev pub blockFor : Filter → ℕ → List ℕ
+blockFor f nearest = blockOf (f .answer) nearest (f .left) (f .right)
+
+-- the block of a query
+unfoldable pub answerOf : State → Lookup → Work → List Float → List Float → Point3 → List ℕ
+answerOf s look d responses delays q = blockFor (filteredOf s look d responses delays q) (nearestOf s look d q)
