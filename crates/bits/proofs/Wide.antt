@@ -39,15 +39,18 @@ unit-of (fin true m e) l h = absurd (go (eqb (1 * down e) (m * up e * 2 ^ 60)) (
   where
     none : (d : ℕ) → 0 < d → 1 * d ≡ 0 → ⊥
     none d p q = omega arith
+
     go : (p q : Bool) → (T q → 1 * down e ≡ 0) → T (p && q) → ⊥
     go true true f t = none (down e) (down-pos e) (f tt)
     go true false f t = t
     go false q f t = t
 unit-of (fin false m e) l h = record {
-    m = m; e = e; is = refl;
-    least = le-trans (le-of-eq (sym (one-mul (down e)))) (or-le (1 * down e) (m * up e * 2 ^ 60) true l);
-    below = lt-of-le-of-lt (le-of-eq (sym (mul-one (m * up e)))) (lt-of-lt-of-le (ltb→lt (m * up e * 1) (1 * 2 ^ 1 * down e) h) (le-of-eq (two (down e))))
-  }
+  m = m;
+  e = e;
+  is = refl;
+  least = le-trans (le-of-eq (sym (one-mul (down e)))) (or-le (1 * down e) (m * up e * 2 ^ 60) true l);
+  below = lt-of-le-of-lt (le-of-eq (sym (mul-one (m * up e)))) (lt-of-lt-of-le (ltb→lt (m * up e * 1) (1 * 2 ^ 1 * down e) h) (le-of-eq (two (down e))));
+}
   where
     two : (d : ℕ) → 2 * d ≡ 2 * d
     two d = refl
@@ -76,6 +79,7 @@ top-field s t m e q = go (eqb t 0) q
     isFin nan = false
     isFin (inf s) = false
     isFin (fin s m e) = true
+
     go : (b : Bool) → fin false m e ≡ cond b (inf s) nan → ⊥
     go true q = true≢false (ap isFin q)
     go false q = true≢false (ap isFin q)
@@ -87,6 +91,7 @@ raise x d C N A dp e h = le-of-mul-le-mul-right (le-trans (mul-le-mul-left C h) 
   where
     g1 : C * (x * A) ≡ x * C * A
     g1 = omega arith
+
     g2 : N * d * A ≡ N * A * d
     g2 = omega arith
 
@@ -130,16 +135,22 @@ module _ (m : ℕ) (e : ℤ) (lo : down e ≤ m * up e * 2 ^ 60) (hi : m * up e 
     where
       small : (t : ℕ) → t < 4503599627370496 → 4503599627370496 + t < 9007199254740992
       small t h = omega arith
+
       big : (t : ℕ) → 4503599627370496 ≤ 4503599627370496 + t
       big t = omega arith
+
       f1 : (z : ℕ) → 1074 < 53 + (z + 60) → 962 ≤ z
       f1 z h = omega arith
+
       f2 : (z : ℕ) → 52 + z < 1075 → z ≤ 1022
       f2 z h = omega arith
+
       back : (z : ℕ) → z ≤ 1022 → 1074 - z + z ≡ 1074
       back z h = omega arith
+
       g1 : (x a b : ℕ) → x * a * b ≡ x * (a * b)
       g1 x a b = omega arith
+
       g2 : (x a d : ℕ) → x * a * d ≡ x * d * a
       g2 x a d = omega arith
 
@@ -154,18 +165,25 @@ by-field m e b (suc z) lo hi ez q = go (eqb (suc z) 2047) (eqb→eq (suc z) 2047
   where
     cut : (b : ℕ) → b % 4503599627370496 < 4503599627370496
     cut b = omega arith
+
     cap : (b z : ℕ) → b % 9223372036854775808 / 4503599627370496 ≡ z → z < 2048
     cap b z h = omega arith
+
     less : (z : ℕ) → suc z < 2048 → (suc z ≡ 2047 → ⊥) → suc z < 2047
     less z h k = omega arith
+
     same : (b z : ℕ) → b < 9223372036854775808 → b % 9223372036854775808 / 4503599627370496 ≡ suc z → suc z ≡ b / 4503599627370496
     same b z h k = omega arith
+
     first : (z : ℕ) → 962 ≤ z → 963 ≤ suc z
     first z h = omega arith
+
     last : (z : ℕ) → z ≤ 1022 → suc z ≤ 1023
     last z h = omega arith
+
     rest : (z : ℕ) → 1074 - z ≡ 1075 - suc z
     rest z = omega arith
+
     go : (c : Bool) → (T c → suc z ≡ 2047) → eqb (suc z) 2047 ≡ c → (963 ≤ b / 4503599627370496) × ((b / 4503599627370496 ≤ 1023) × HasValue (fin false m e) false (4503599627370496 + b % 4503599627370496) (2 ^ (1075 - b / 4503599627370496)))
     go true f k = absurd (top-field (leb 9223372036854775808 b) (b % 4503599627370496) m e (q ∙ ap (λ (n : ℕ). ofFields binary64 (leb 9223372036854775808 b) n (b % 4503599627370496)) (f tt)))
     go false f k =
