@@ -77,7 +77,8 @@ module _ (m : ℕ) (angle radius : Float) (left right neigh : List ℕ) (xs : Li
   answered : (k : ℕ) → entry* k ≡ At (numberIn (entry* k))
   answered k = let e = entries xs m (linksOf left right) room look* angle radius k .is in e ∙ sym (ap (λ (x : Located). At (numberIn x)) e)
 
-  filled : tableOf look* m xs left* right* angle radius neigh ≡ tabledAs verdict.Fine (over (upto (λ k. numberIn (entry* k)) (6 * m)) neigh)
+  -- the whole table is written, and nothing refused on the way
+  pub filled : tableOf look* m xs left* right* angle radius neigh ≡ tabledAs verdict.Fine (over (upto (λ k. numberIn (entry* k)) (6 * m)) neigh)
   unfolding tableOf
   filled = all-answered entry* (λ k. numberIn (entry* k)) neigh (6 * m) (λ k l. answered k) fits
 

@@ -28,7 +28,7 @@ use Rattle.source_laws.specs.Same.{Set, hrtf, sizes, lengths, look, blen
 use Rattle.source_laws.specs.Calls.{SameCalls}
 
 -- past the checks, at the number found
-past : (v : Verdict) (r : Located) (a b : ℕ) (f : ℕ → Filter) (k : ℕ) → v ≡ Fine → r ≡ At k → allowed v a b (nearestOr r a b f) ≡ f k
+pub past : (v : Verdict) (r : Located) (a b : ℕ) (f : ℕ → Filter) (k : ℕ) → v ≡ Fine → r ≡ At k → allowed v a b (nearestOr r a b f) ≡ f k
 unfolding allowed nearestOr
 past v r a b f k e h = ap (λ (w : Verdict). allowed w a b (nearestOr r a b f)) e ∙ ap (λ (z : Located). nearestOr z a b f) h
 

@@ -1,10 +1,11 @@
 -- THE THEOREM: what a loaded set answers is what the source answers (specs/Same.antt). Assumes nothing.
 use mathlib.Core.Path.{_≡_, refl, sym, ap, _∙_}
-use mathlib.Core.List.{List}
+use mathlib.Core.List.{List, []}
 use Prim.Native.Nat.{ℕ, zero, suc, _<_}
 use native.Mathlib.Omega.{arith}
 use lib.ListN.{length, getD, drop, List·getD-append}
 use lib.Ieee.{Float}
+use Rattle.floats.specs.Floats.{zero32}
 use Rattle.lists.specs.Over.{over}
 use Rattle.points.specs.declared.Point3.{Point3}
 use Rattle.points.specs.Points.{Finite}
@@ -22,17 +23,18 @@ use Rattle.neighbors.specs.Neighbors.{Tabled}
 use Rattle.source.specs.Rust.{Option, Some}
 use Rattle.source.specs.Lookup.{«find_mut», find, «normalize_radius»}
 use Rattle.source.specs.Neighbors.{Neighbors, newNeighborhood, get}
-use Rattle.source.specs.Interpolate.{«extract_filter», «get_filter_nointerp»}
+use Rattle.source.specs.Interpolate.{interpolate, «extract_filter», «get_filter_nointerp»}
 use Rattle.source.specs.Reader as reader
 use Rattle.source.specs.Reader.{Sofar, opened, openedBy, filledOr, filterAt, filter, nointerpAt, «filter_nointerp»}
 use Rattle.source_laws.specs.Drawn.{boxed, ported, enteredAll, heard}
+use Rattle.source_laws.specs.Way.{Way, wayOf, madeBy, told}
 use Rattle.source_laws.specs.Same.{Set, Loaded, hrtf, sizes, lengths, look, blend, plain, SameAsSource}
 use Rattle.source_laws.proofs.Linked.{Holds, drawn-is}
 use Rattle.source_laws.proofs.Built.{measuredTo, root-same, boxBy, bounds-same, box-same, six-same, new-same}
 use Rattle.source_laws.proofs.Find.{Finds, finds, clamp-same}
 use Rattle.source_laws.proofs.Table.{six, table-same, neighborhood-same}
 use Rattle.source_laws.proofs.Blend.{extract-same}
-use Rattle.source_laws.proofs.Interpolate.{interpolate-same}
+use Rattle.source_laws.proofs.Interpolate.{interpolate-same, way-taken, told-same}
 use Rattle.source_laws.proofs.Rows.{row-same, row-in}
 
 over-same : (l d : List ℕ) (i : ℕ) → i < length l → getD (over l d) i 0 ≡ getD l i 0
@@ -99,6 +101,26 @@ module _ (n r t : ℕ) (xs : List Float) (left right near : List ℕ) (resp dela
       ∙ interpolate-same (suc n) r t xs resp delays rate (L .most) (L .positions) (L .ears) (L .taps) built refl out q k (found q .below) (record { points = L .finite; query = f })
       (ours k) (row-in xs n (L .most) left right holds angle radius (L .angle-step) k) (built .neighborhood) near (rows k (found q .below)) (entries k (found q .below))
 
+  abbrev way : Point3 → Way
+  way q = wayOf (hrtf s) (built .neighborhood) (found q .number) q
+
+  -- the way does not depend on the filter that is filled
+  abbrev unfilled : reader.Filter
+  unfilled = record { left = []; right = []; ldelay = zero32; rdelay = zero32 }
+
+  goes : (q : Point3) → Finite q → interpolate (hrtf s) (built .neighborhood) (found q .number) q ≡ madeBy (hrtf s) (found q .number) (way q)
+  goes q f =
+      let k = found q .number in
+      way-taken (suc n) r t xs resp delays rate (L .most) (L .positions) (L .ears) (L .taps) built refl unfilled q k (found q .below) (record { points = L .finite; query = f }) (ours k)
+      (row-in xs n (L .most) left right holds angle radius (L .angle-step) k) (built .neighborhood) (rows k (found q .below))
+
+  outcomes : (q : Point3) → Finite q → (out : reader.Filter) → blend s out q (found q .number) ≡ told (way q) (filter built (q .x) (q .y) (q .z) out)
+  outcomes q f out =
+      let k = found q .number in
+      told-same (suc n) r t xs resp delays rate (L .most) (L .positions) (L .ears) (L .taps) built refl out q k (found q .below) (record { points = L .finite; query = f })
+      (ours k) (row-in xs n (L .most) left right holds angle radius (L .angle-step) k) (built .neighborhood) near (rows k (found q .below)) (entries k (found q .below))
+      ∙ ap (told (way q)) (sym (filters q f out))
+
   filters-plain : (q : Point3) (out : reader.Filter) → «filter_nointerp» built (q .x) (q .y) (q .z) out ≡ heard (plain s out (found q .number))
   unfolding «filter_nointerp» nointerpAt «get_filter_nointerp»
   filters-plain q out = ap (nointerpAt built out) (found q .in-source) ∙ plainly (found q .number) (found q .below) out
@@ -137,6 +159,9 @@ module _ (n r t : ℕ) (xs : List Float) (left right near : List ℕ) (resp dela
         port-moves = moved;
         source-moves = moves;
         filters = filters;
+        way = way;
+        goes = goes;
+        outcomes = outcomes;
         filters-plain = filters-plain;
         by-number = by-number;
       }

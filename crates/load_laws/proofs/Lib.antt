@@ -1,0 +1,4 @@
+pub mod Positions
+pub mod Loaded
+pub mod Checks
+pub mod Load
