@@ -179,7 +179,7 @@ fn measured(m: usize, r: &mut Random) -> (u32, Vec<f32>) {
     let mut all = Vec::new();
     let mut elevation = -40.0f32;
     while elevation <= 90.0 {
-        let turns = (elevation.to_radians().cos() * 360.0 / step).floor().max(1.0);
+        let turns = ((1.0 - elevation * elevation / 8100.0) * 360.0 / step).floor().max(1.0);
         all.extend((0..turns as usize).map(|i| [i as f32 * (360.0 / turns), elevation, 1.4]));
         elevation += step;
     }
