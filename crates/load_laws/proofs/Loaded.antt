@@ -1,7 +1,6 @@
 -- What a load that is not refused leaves is a loaded set, the premise of source_laws's `same`. Assumes nothing.
-use mathlib.Core.Path.{_≡_, refl, sym, ap, _∙_}
+use mathlib.Core.Path.{_≡_, refl, sym, ap}
 use mathlib.Core.List.{List}
-use Prim.Native.Nat.{ℕ, _+_, _*_, _<_}
 use native.Mathlib.Omega.{arith}
 use lib.ListN.{length}
 use lib.Ieee.{Float}
@@ -11,8 +10,8 @@ use Rattle.limits.specs.declared.Verdict.the-variants.{Fine}
 use Rattle.limits.proofs.Passed.{LoadPassed, load-passed}
 use Rattle.lookup.specs.Build.{linksOf, buildOf}
 use Rattle.neighbors.specs.Neighbors.{Tabled}
-use Rattle.loads.specs.Load.{Work, Load, cartesianFrom, indexed, placedIn, lengthsIn, loadBy, loadOf}
-use Rattle.loads.proofs.Ways.{as-long, filled}
+use Rattle.loads.specs.Load.{Load, cartesianFrom, indexed, placedIn, lengthsIn, loadBy, loadOf}
+use Rattle.loads.proofs.Ways.{filled}
 use Rattle.loads.proofs.Bare.{enough}
 use Rattle.source_laws.specs.Same as set
 use Rattle.load_laws.specs.Load.{Given, judged, loaded, setIn}

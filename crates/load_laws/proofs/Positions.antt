@@ -1,24 +1,24 @@
 -- The front of the Cartesian list after a load: what the source copies or converts, and each of its points finite. Assumes nothing.
-use mathlib.Core.Path.{_≡_, refl, sym, ap, _∙_, subst}
+use mathlib.Core.Path.{_≡_, refl, ap, _∙_, subst}
 use mathlib.Core.Bool.{true}
 use mathlib.Core.List.{List, [], _∷_}
-use Prim.Native.Nat.{ℕ, zero, suc, _+_, _*_, _<_, _≤_}
+use Prim.Native.Nat.{ℕ, zero, suc, _+_, _*_, _<_}
 use native.Mathlib.Omega.{arith}
 use lib.Dec.{T}
-use lib.ListN.{length, getD, drop, List·getD-append}
+use lib.ListN.{length, drop, List·getD-append}
 use lib.Ieee.{Float, nan, neg, round}
 use lib.Ieee.Scale.{finite}
 use borrow.Author.Tests.{eqb-true, ne-eqb}
 use Rattle.lists.specs.Over.{over}
 use Rattle.points.specs.declared.Point3.{Point3}
 use Rattle.points.specs.Points.{pointAt, Finite}
-use Rattle.limits.specs.Allowed.{nearest, within, kindOk, cartesianOk, positionOk}
+use Rattle.limits.specs.Allowed.{nearest, within, kindOk, positionOk}
 use Rattle.limits.proofs.Passed.{Allowed}
 use Rattle.limits.proofs.Ends.{between-finite, cartesian-finite}
 use Rattle.coords.specs.Coords.{cartesianOf, turnOf, alongOf}
-use Rattle.coords.specs.Arrays.{turned, lifted, byTriplets}
+use Rattle.coords.specs.Arrays.{turned, byTriplets}
 use Rattle.coords.proofs.Places.{changed-length}
-use Rattle.coord_laws.proofs.Inside.{Inside, list-inside}
+use Rattle.coord_laws.proofs.Inside.{list-inside}
 use Rattle.loads.specs.Load.{cartesianFrom}
 use Rattle.source.specs.Rust.{array}
 use Rattle.source.specs.Coords.{«spherical_to_cartesian», «convert_array_to_cartesian»}

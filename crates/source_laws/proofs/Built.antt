@@ -17,7 +17,6 @@ use Rattle.kdtree.specs.Geometry.{grown}
 use Rattle.coords.specs.Coords.{sphericalOf, radiusOf}
 use Rattle.walks.proofs.Pruned.{Clean}
 use Rattle.walks.proofs.Rep.{graft, graft-clean}
-use Rattle.lookup.specs.declared.Lookup.{Lookup}
 use Rattle.lookup.specs.Build.{boxTo, leastOf, greatestOf}
 use Rattle.source.specs.Rust.{Option, None, Some, array, at}
 use Rattle.source.specs.Coords.{«cartesian_to_spherical»}

@@ -24,7 +24,7 @@ use Rattle.source.specs.Reader as source
 use Rattle.source.specs.Interpolate.{«get_filter_nointerp»}
 use Rattle.source.specs.Reader.{filledOr, foldMax, «max_delay»}
 use Rattle.source_laws.specs.Drawn.{heard}
-use Rattle.source_laws.specs.Same.{Set, hrtf, sizes, lengths, look, blend, plain, SameAsSource}
+use Rattle.source_laws.specs.Same.{Set, sizes, lengths, look, blend, plain, SameAsSource}
 use Rattle.source_laws.specs.Calls.{SameCalls}
 
 -- past the checks, at the number found
