@@ -14,17 +14,16 @@ use Rattle.points.specs.declared.Point3.{Point3}
 use Rattle.points.specs.Points.{pointAt}
 use Rattle.kdtree.specs.declared.BoundingBox.{BoundingBox}
 use Rattle.kdtree.specs.Geometry.{grown}
-use Rattle.coords.specs.Coords.{sphericalOf, radiusOf}
 use Rattle.walks.proofs.Pruned.{Clean}
 use Rattle.walks.proofs.Rep.{graft, graft-clean}
 use Rattle.lookup.specs.Build.{boxTo, leastOf, greatestOf}
-use Rattle.source.specs.Rust.{Option, None, Some, array, at}
-use Rattle.source.specs.Coords.{«cartesian_to_spherical»}
+use Rattle.source.specs.Rust.{Option, None, Some, at}
 use Rattle.source.specs.Kdtree as source
 use Rattle.source.specs.Kdtree.{KdNode, kdNode, Link, none, some, newBox, extend, grownBy, insert, «insert_rec», newTree, «is_empty»}
 use Rattle.source.specs.Lookup as looked
 use Rattle.source.specs.Lookup.{triplet, unmeasured, measured, measuring, newLookup}
 use Rattle.source_laws.specs.Drawn.{boxed, flat, ported, hrtfOf}
+use Rattle.source_laws.proofs.Turns.{spherical-same}
 use Rattle.source_laws.proofs.Shapes.{flat-new, flat-extend}
 use Rattle.source_laws.proofs.Insert.{insert-same}
 use Rattle.source_laws.proofs.Linked.{grownTo}
@@ -105,10 +104,6 @@ box-same xs zero = flat-new (pointAt xs 0)
 box-same xs (suc n) = flat-extend (boxBy xs n) (pointAt xs (suc n)) ∙ ap (λ (b : BoundingBox). grown b (pointAt xs (suc n))) (box-same xs n)
 
 -- ---- the six bounds
-
-pub spherical-same : (p : Point3) → «cartesian_to_spherical» ported p ≡ array (sphericalOf p .azimuth) (sphericalOf p .elevation) (sphericalOf p .radius)
-unfolding «cartesian_to_spherical» sphericalOf radiusOf
-spherical-same p = refl
 
 pub record SixSame (xs : List Float) (n : ℕ) (look : looked.Lookup) : Type 0 where
   pub phi-least : look .«phi_min» ≡ leastOf (λ s. s .azimuth) xs n

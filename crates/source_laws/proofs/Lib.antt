@@ -1,3 +1,4 @@
+pub mod Turns
 pub mod Shapes
 pub mod Search
 pub mod Insert

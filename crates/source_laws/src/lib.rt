@@ -3,7 +3,8 @@
 // The source's side is the crate source, its functions transcribed one by one; the port's side is the definitions that the contracts cite. specs/Same.antt
 // states it on one page for a loaded set (`SameAsSource`): tree, box, six bounds, neighbour table, radius clamp, find, find_mut, the blended and the plain
 // filter and the filter by number; specs/Calls.antt for the reader's calls and max_delay (`SameCalls`). specs/Bare.antt states it for the bare tree
-// (`SameTree`), for any f32. proofs/Same.antt (`same`), proofs/Calls.antt (`calls`) and proofs/Bare.antt (`bare`) prove it, with nothing assumed.
+// (`SameTree`), for any f32, specs/Turns.antt for the conversions (`SameTurns`). proofs/Same.antt (`same`), proofs/Calls.antt (`calls`), proofs/Bare.antt
+// (`bare`) and proofs/Turns.antt (`turns`) prove it, with nothing assumed.
 // specs/Drawn.antt says which values of the source the port's lists and structs stand for, specs/Way.antt which outcome the port tells of a query that the
 // source answers. That `load` leaves a loaded set, and so answers as the source does from the opening on, is the crate load_laws's theorem.
 //
