@@ -1,10 +1,11 @@
 -- THE THEOREM: what a load leaves and what each later call answers is the source's (specs/Load.antt). Assumes nothing.
 use mathlib.Core.Path.{_≡_, refl, sym, ap, _∙_, subst}
-use mathlib.Core.List.{List}
+use mathlib.Core.List.{List, [], _∷_}
 use Prim.Native.Nat.{ℕ, _+_, _*_, _<_}
 use native.Mathlib.Omega.{arith}
 use lib.ListN.{length, take, drop}
-use lib.Ieee.{Float}
+use lib.Ieee.{Float, binary32, div}
+use Rattle.floats.specs.Floats.{zero32, maxOf}
 use Rattle.lists.specs.Over.{over, upto}
 use Rattle.lists.proofs.Laws.{take-over, drop-over, length-upto}
 use Rattle.points.specs.declared.Point3.{Point3}
@@ -19,10 +20,13 @@ use Rattle.lookup.specs.Build.{linked}
 use Rattle.lookup.proofs.Links.{linked-left, linked-right}
 use Rattle.lookup.specs.Lookup.{clampedBy, locateOf, unless, findOf, movedAs, movedBy, findMutOf, pointIn, putPoint}
 use Rattle.mix.specs.Mix.{startOf}
-use Rattle.interpolate.specs.Blend.{extractOf}
+use Rattle.interpolate.specs.Blend.{Filter, extractOf}
+use Rattle.delays.specs.Delays.{secondsOf}
 use Rattle.interpolate.specs.declared.Neighbors as port
 use Rattle.reader.specs.declared.Around.the-variants.{Six}
-use Rattle.reader.specs.Queries.{allowed, filterSays, plainSays, numberSays}
+use Rattle.reader.specs.declared.MaxDelay.the-variants.{Delay}
+use Rattle.reader.specs.Longest.{greatest, longestOf, maxBy, maxDelayOf}
+use Rattle.reader.specs.Queries.{allowed, nearestOr, filterSays, plainSays, numberSays}
 use Rattle.reader.specs.Numbers.{partBy, partOf, within, responseOf, aroundBy, aroundOf, entriesOf}
 use Rattle.loads.specs.declared.Loaded.the-variants.{Ready, Refused}
 use Rattle.loads.specs.Load.{Work, Load, cartesianFrom, indexed, loadBy, loadOf}
@@ -32,19 +36,28 @@ use Rattle.source.specs.Lookup.{Hrtf}
 use Rattle.source.specs.Hrtf.{«convert_to_cartesian»}
 use Rattle.source.specs.Interpolate.{InterpolatedFilter, «extract_filter», «get_filter_nointerp»}
 use Rattle.source.specs.Reader as source
-use Rattle.source.specs.Reader.{opened, «open_data», filter, «filter_nointerp», filledOr}
+use Rattle.source.specs.Reader.{opened, «open_data», filter, «filter_nointerp», filledOr, foldMax, «max_delay»}
 use Rattle.source_laws.specs.Drawn.{ported, heard}
 use Rattle.source_laws.specs.Way.{exactly, told}
 use Rattle.source_laws.specs.Same as set
 use Rattle.source_laws.specs.Same.{SameAsSource}
 use Rattle.source_laws.proofs.Same as theorem
 use Rattle.source_laws.proofs.Blend as blend
-use Rattle.source_laws.proofs.Calls.{past, calls}
 use Rattle.load_laws.specs.Load.{Given, judged, loaded, setIn, file, typeOf, portFind, portFindMut, portFilter, portPlain, portNumber, listedSix, LoadsAsSource}
 use Rattle.load_laws.proofs.Positions.{positions-same}
 use Rattle.load_laws.proofs.Loaded as after
 use Rattle.load_laws.proofs.Loaded.{says, went, is-loaded}
 use Rattle.load_laws.proofs.Checks.{find-fine, filter-fine, plain-fine, number-fine, response-fine, around-fine, rate-fine}
+
+-- past the checks, at the number found
+past : (v : Verdict) (r : Located) (a b : ℕ) (f : ℕ → Filter) (k : ℕ) → v ≡ Fine → r ≡ At k → allowed v a b (nearestOr r a b f) ≡ f k
+unfolding allowed nearestOr
+past v r a b f k e h = ap (λ (w : Verdict). allowed w a b (nearestOr r a b f)) e ∙ ap (λ (z : Located). nearestOr z a b f) h
+
+fold-same : (a : Float) (l : List Float) → greatest a l ≡ foldMax a l
+unfolding greatest foldMax
+fold-same a [] = refl
+fold-same a (x ∷ l) = fold-same (maxOf a x) l
 
 module _ (g : Given) (fine : judged g ≡ Fine) where
   abbrev w : Work
@@ -125,6 +138,13 @@ module _ (g : Given) (fine : judged g ≡ Fine) where
       ap (λ (v : Verdict). allowed v (length (out .left)) (length (out .right)) (set.plain s out k)) (number-fine g fine k h)
       ∙ plain-told out k ∙ ap (told exactly) (sym (same .by-number k h out))
 
+  longest : maxDelayOf (g .delays) (g .rate) ≡ Delay (record { 0 = «max_delay» (same .sofar) })
+  unfolding maxDelayOf «max_delay»
+  longest =
+      ap (λ (v : Verdict). maxBy v (secondsOf (longestOf (g .delays)) (g .rate))) (rate-fine g fine)
+      ∙ ap (λ (x : Float). Delay (record { 0 = div binary32 x (g .rate) })) (fold-same zero32 (g .delays))
+      ∙ ap (λ (h : Hrtf). Delay (record { 0 = div binary32 (foldMax zero32 (h .«data_delay»)) (h .«sample_rate») })) (sym (same .of-set))
+
   -- ---- responses and neighbours
 
   abbrev own : ℕ → InterpolatedFilter
@@ -186,7 +206,7 @@ module _ (g : Given) (fine : judged g ≡ Fine) where
     filters = filters;
     filters-plain = filters-plain;
     by-number = by-number;
-    longest = calls s same .longest (rate-fine g fine);
+    longest = longest;
     own = own;
     source-own = source-own;
     left-response = λ k h. response k 0 (k * g .sizes .r * g .sizes .n) h (unfold startOf in omega arith);

@@ -16,4 +16,3 @@ pub mod Blend
 pub mod Interpolate
 pub mod Rows
 pub mod Same
-pub mod Calls

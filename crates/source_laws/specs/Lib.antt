@@ -3,4 +3,3 @@ pub mod Turns
 pub mod Bare
 pub mod Way
 pub mod Same
-pub mod Calls
