@@ -48,6 +48,8 @@ module _ (g : Given) (fine : judged g ≡ Fine) where
         finite = λ k h. positions-finite (g .kind) (g .positions) (g .work .cartesian) (P .known) (P .values) k (let z = P .room .exact in omega arith);
         angle-step = P .angle;
         links-before = linksOf (g .work .left) (g .work .right);
+        left-room = R .left;
+        right-room = R .right;
         left-links = refl;
         right-links = refl;
         table-before = g .work .neighbours;

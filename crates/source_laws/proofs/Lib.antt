@@ -2,10 +2,10 @@ pub mod Turns
 pub mod Shapes
 pub mod Search
 pub mod Insert
-pub mod Linked
 pub mod Built
 pub mod Find
 pub mod Bare
+pub mod Linked
 pub mod Caps
 pub mod Steps
 pub mod Table

@@ -20,9 +20,8 @@ use Rattle.source.specs.Lookup.{find}
 use Rattle.source.specs.Neighbors.{otherThan, stepping}
 use Rattle.source_laws.specs.Drawn.{ported, entered}
 use Rattle.source_laws.proofs.Turns.{cartesian-same}
-use Rattle.source_laws.proofs.Linked.{Holds}
+use Rattle.source_laws.proofs.Linked.{Holds, finds}
 use Rattle.source_laws.proofs.Built.{measuredTo, six-same}
-use Rattle.source_laws.proofs.Find.{finds}
 
 -- absent, or one of the m measurements
 abbrev pub InSet : ℕ → Option ℕ → Type 0
@@ -88,7 +87,7 @@ module _ (xs : List Float) (n : ℕ) (small : suc n ≤ 16384) (left right : Lis
   more : (k i : ℕ) → Same k (i + 1) → Same (suc k) i
   unfolding going
   more k i ih =
-      let F = finds xs n small left right h (cartesianOf (there i)) in
+      let F = finds xs n left right h (cartesianOf (there i)) in
       let b = leaves look (step .radius) (there i .radius) in
       let g = going look (suc n) xs left right own from step k (i + 1) in
       let o = searched k (i + 1 + 1) in

@@ -57,6 +57,8 @@ pub record Loaded (s : Set) : Type 0 where
   pub finite : (k : ℕ) → k < s .m → Finite (pointAt (s .cartesian) k)
   pub angle-step : angleStepOk (s .angle) ≡ true
   pub links-before : Links
+  pub left-room : s .m ≤ length (links-before .left)
+  pub right-room : s .m ≤ length (links-before .right)
   pub left-links : s .left ≡ buildOf (s .cartesian) (s .m) links-before .links .left
   pub right-links : s .right ≡ buildOf (s .cartesian) (s .m) links-before .links .right
   pub table-before : List ℕ

@@ -7,7 +7,7 @@
 // which values of the source the port's lists and structs stand for, specs/Way.antt which outcome the port tells of a query that the source answers.
 // That `load` leaves a loaded set, and what the reader's calls, their checks included, answer over it, is the crate load_laws's theorem.
 //
-// The way there: proofs/Shapes.antt (points and boxes), proofs/Search.antt (nearest_rec, visit by visit), proofs/Insert.antt (insert_rec), proofs/Linked.antt
-// (what a loaded set's links draw), proofs/Built.antt and proofs/Find.antt (lookup.rs), proofs/Caps.antt, proofs/Steps.antt, proofs/Table.antt and
-// proofs/Rows.antt (neighbors.rs), proofs/Points.antt, proofs/Delays.antt, proofs/Ears.antt, proofs/Blend.antt and proofs/Interpolate.antt (interpolate.rs
-// and fill_filter).
+// The way there: proofs/Shapes.antt (points and boxes), proofs/Search.antt (nearest_rec, visit by visit), proofs/Insert.antt (insert_rec), proofs/Find.antt and
+// proofs/Bare.antt (nearest), proofs/Built.antt and proofs/Linked.antt (lookup.rs: a loaded set is the bare tree filled in place order, by lookup_laws),
+// proofs/Caps.antt, proofs/Steps.antt, proofs/Table.antt and proofs/Rows.antt (neighbors.rs), proofs/Points.antt, proofs/Delays.antt, proofs/Ears.antt,
+// proofs/Blend.antt and proofs/Interpolate.antt (interpolate.rs and fill_filter).
