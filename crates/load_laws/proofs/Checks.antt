@@ -1,22 +1,19 @@
 -- After a load that is not refused no later call is refused by its own checks: the lists are as long as before, and sizes and rate were checked. Assumes nothing.
-use mathlib.Core.Path.{_≡_, refl, sym, ap, _∙_}
-use mathlib.Core.Bool.{Bool, true, false, not, _&&_}
-use mathlib.Core.List.{List, [], _∷_}
-use Prim.Native.Nat.{ℕ, _*_, _<_, _≤_}
+use mathlib.Core.Path.{_≡_, refl, ap, _∙_}
+use mathlib.Core.Bool.{Bool, true, false, not}
+use Prim.Native.Nat.{ℕ, _*_, _<_}
 use native.Mathlib.Omega.{arith}
 use lib.Dec.{T, eqb}
 use lib.ListN.{length}
-use lib.Ieee.{Float}
 use lib.Ieee.Scale.{finite}
 use borrow.Author.Tests.{not-false, lt-leb}
 use Rattle.lists.specs.Over.{over, upto}
 use Rattle.lists.proofs.Laws.{length-over, length-upto}
 use Rattle.points.specs.declared.Point3.{Point3}
 use Rattle.points.specs.Points.{Finite}
-use Rattle.limits.specs.declared.Lengths.{Lengths}
 use Rattle.limits.specs.declared.Verdict.the-variants.{Fine}
-use Rattle.limits.specs.Allowed.{sizesOk, treeFits, responsesFit, neighboursFit, plainFits, blendFits, loadFits, rateOk}
-use Rattle.limits.specs.Refusals.{Check, verdictOf, queryLines, findLines, filterLines, numberLines, ratedLines, rateLines}
+use Rattle.limits.specs.Allowed.{sizesOk, treeFits, responsesFit, neighboursFit, plainFits, blendFits, loadFits}
+use Rattle.limits.specs.Refusals.{verdictOf, queryLines, findLines, filterLines, numberLines, ratedLines, rateLines}
 use Rattle.limits.proofs.Lines.{passed, Unmet, done, more, unmet→fine, and-left, and-right}
 use Rattle.lookup.specs.Build.{linked}
 use Rattle.lookup.specs.Lookup.{treeLengths}

@@ -2,3 +2,4 @@ pub mod Positions
 pub mod Loaded
 pub mod Checks
 pub mod Load
+pub mod Domain

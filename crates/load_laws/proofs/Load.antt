@@ -1,13 +1,13 @@
 -- THE THEOREM: what a load leaves and what each later call answers is the source's (specs/Load.antt). Assumes nothing.
 use mathlib.Core.Path.{_≡_, refl, sym, ap, _∙_, subst}
-use mathlib.Core.Bool.{Bool, cond}
-use mathlib.Core.List.{List}
-use Prim.Native.Nat.{ℕ, _+_, _*_, _<_, _≤_}
+use mathlib.Core.List.{List, [], _∷_}
+use Prim.Native.Nat.{ℕ, _+_, _*_, _<_}
 use native.Mathlib.Omega.{arith}
 use lib.ListN.{length, take, drop}
-use lib.Ieee.{Float}
-use borrow.Author.Tests.{le-ltb}
-use Rattle.lists.proofs.Laws.{take-over}
+use lib.Ieee.{Float, binary32, div}
+use Rattle.floats.specs.Floats.{zero32, maxOf}
+use Rattle.lists.specs.Over.{over, upto}
+use Rattle.lists.proofs.Laws.{take-over, drop-over, length-upto}
 use Rattle.points.specs.declared.Point3.{Point3}
 use Rattle.points.specs.Points.{Finite}
 use Rattle.limits.specs.declared.Verdict.{Verdict}
@@ -16,37 +16,48 @@ use Rattle.limits.specs.declared.Verdict.the-variants.{Fine}
 use Rattle.lookup.specs.declared.Lookup.{Lookup}
 use Rattle.lookup.specs.declared.Located.{Located}
 use Rattle.lookup.specs.declared.Located.the-variants.{At}
+use Rattle.lookup.specs.Build.{linked}
+use Rattle.lookup.proofs.Links.{linked-left, linked-right}
 use Rattle.lookup.specs.Lookup.{clampedBy, locateOf, unless, findOf, movedAs, movedBy, findMutOf, pointIn, putPoint}
 use Rattle.mix.specs.Mix.{startOf}
-use Rattle.mix.proofs.Laws as mix
-use Rattle.interpolate.specs.Blend.{Filter, neighborsOf, extractOf}
+use Rattle.interpolate.specs.Blend.{Filter, extractOf}
+use Rattle.delays.specs.Delays.{secondsOf}
 use Rattle.interpolate.specs.declared.Neighbors as port
-use Rattle.reader.specs.declared.Part.{Part}
 use Rattle.reader.specs.declared.Around.the-variants.{Six}
-use Rattle.reader.specs.Queries.{allowed, filterSays, plainSays, numberSays}
+use Rattle.reader.specs.declared.MaxDelay.the-variants.{Delay}
+use Rattle.reader.specs.Longest.{greatest, longestOf, maxBy, maxDelayOf}
+use Rattle.reader.specs.Queries.{allowed, nearestOr, filterSays, plainSays, numberSays}
 use Rattle.reader.specs.Numbers.{partBy, partOf, within, responseOf, aroundBy, aroundOf, entriesOf}
-use Rattle.loads.specs.declared.Loaded as loads
 use Rattle.loads.specs.declared.Loaded.the-variants.{Ready, Refused}
 use Rattle.loads.specs.Load.{Work, Load, cartesianFrom, indexed, loadBy, loadOf}
 use Rattle.loads.proofs.Ways.{as-long}
-use Rattle.source.specs.Rust.{Option, None, Some}
+use Rattle.source.specs.Rust.{Some}
 use Rattle.source.specs.Lookup.{Hrtf}
 use Rattle.source.specs.Hrtf.{«convert_to_cartesian»}
-use Rattle.source.specs.Interpolate.{InterpolatedFilter, extractDelays, «extract_filter», «get_filter_nointerp»}
+use Rattle.source.specs.Interpolate.{InterpolatedFilter, «extract_filter», «get_filter_nointerp»}
 use Rattle.source.specs.Reader as source
-use Rattle.source.specs.Reader.{opened, «open_data», filter, «filter_nointerp», filledOr}
-use Rattle.source_laws.specs.Drawn.{ported, enteredAll, heard}
-use Rattle.source_laws.specs.Way.{Way, exactly, told}
+use Rattle.source.specs.Reader.{opened, «open_data», filter, «filter_nointerp», filledOr, foldMax, «max_delay»}
+use Rattle.source_laws.specs.Drawn.{ported, heard}
+use Rattle.source_laws.specs.Way.{exactly, told}
 use Rattle.source_laws.specs.Same as set
 use Rattle.source_laws.specs.Same.{SameAsSource}
 use Rattle.source_laws.proofs.Same as theorem
 use Rattle.source_laws.proofs.Blend as blend
-use Rattle.source_laws.proofs.Calls.{past, calls}
 use Rattle.load_laws.specs.Load.{Given, judged, loaded, setIn, file, typeOf, portFind, portFindMut, portFilter, portPlain, portNumber, listedSix, LoadsAsSource}
 use Rattle.load_laws.proofs.Positions.{positions-same}
 use Rattle.load_laws.proofs.Loaded as after
 use Rattle.load_laws.proofs.Loaded.{says, went, is-loaded}
 use Rattle.load_laws.proofs.Checks.{find-fine, filter-fine, plain-fine, number-fine, response-fine, around-fine, rate-fine}
+
+-- past the checks, at the number found
+past : (v : Verdict) (r : Located) (a b : ℕ) (f : ℕ → Filter) (k : ℕ) → v ≡ Fine → r ≡ At k → allowed v a b (nearestOr r a b f) ≡ f k
+unfolding allowed nearestOr
+past v r a b f k e h = ap (λ (w : Verdict). allowed w a b (nearestOr r a b f)) e ∙ ap (λ (z : Located). nearestOr z a b f) h
+
+fold-same : (a : Float) (l : List Float) → greatest a l ≡ foldMax a l
+unfolding greatest foldMax
+fold-same a [] = refl
+fold-same a (x ∷ l) = fold-same (maxOf a x) l
 
 module _ (g : Given) (fine : judged g ≡ Fine) where
   abbrev w : Work
@@ -127,6 +138,13 @@ module _ (g : Given) (fine : judged g ≡ Fine) where
       ap (λ (v : Verdict). allowed v (length (out .left)) (length (out .right)) (set.plain s out k)) (number-fine g fine k h)
       ∙ plain-told out k ∙ ap (told exactly) (sym (same .by-number k h out))
 
+  longest : maxDelayOf (g .delays) (g .rate) ≡ Delay (record { 0 = «max_delay» (same .sofar) })
+  unfolding maxDelayOf «max_delay»
+  longest =
+      ap (λ (v : Verdict). maxBy v (secondsOf (longestOf (g .delays)) (g .rate))) (rate-fine g fine)
+      ∙ ap (λ (x : Float). Delay (record { 0 = div binary32 x (g .rate) })) (fold-same zero32 (g .delays))
+      ∙ ap (λ (h : Hrtf). Delay (record { 0 = div binary32 (foldMax zero32 (h .«data_delay»)) (h .«sample_rate») })) (sym (same .of-set))
+
   -- ---- responses and neighbours
 
   abbrev own : ℕ → InterpolatedFilter
@@ -152,6 +170,27 @@ module _ (g : Given) (fine : judged g ≡ Fine) where
       ∙ ap (λ (e : port.Neighbors). Six (record { «phi_plus» = e .«phi_plus»; «phi_minus» = e .«phi_minus»; «theta_plus» = e .«theta_plus»; «theta_minus» = e .«theta_minus»; «radius_plus» = e .«radius_plus»; «radius_minus» = e .«radius_minus» }))
       (same .entries k h)
 
+  -- ---- past the front of a list
+
+  beyond : {A : Type 0} (n : ℕ) (xs d : List A) → length xs ≡ n → drop n (over xs d) ≡ drop n d
+  beyond n xs d e = subst (λ (k : ℕ). drop k (over xs d) ≡ drop k d) e (drop-over xs d)
+
+  past-left : drop (g .sizes .m) (w .left) ≡ drop (g .sizes .m) (g .work .left)
+  unfolding indexed
+  past-left = beyond (g .sizes .m) (linked (after.cart g) (g .sizes .m) .left) (g .work .left) (linked-left (after.cart g) (g .sizes .m))
+
+  past-right : drop (g .sizes .m) (w .right) ≡ drop (g .sizes .m) (g .work .right)
+  unfolding indexed
+  past-right = beyond (g .sizes .m) (linked (after.cart g) (g .sizes .m) .right) (g .work .right) (linked-right (after.cart g) (g .sizes .m))
+
+  past-neighbours : drop (6 * g .sizes .m) (w .neighbours) ≡ drop (6 * g .sizes .m) (g .work .neighbours)
+  unfolding indexed
+  past-neighbours = beyond (6 * g .sizes .m) (upto _ (6 * g .sizes .m)) (g .work .neighbours) (length-upto _ (6 * g .sizes .m))
+
+  past-cartesian : drop (3 * g .sizes .m) (w .cartesian) ≡ drop (3 * g .sizes .m) (g .work .cartesian)
+  unfolding indexed
+  past-cartesian = beyond (3 * g .sizes .m) (cartesianFrom (g .kind) (g .positions)) (g .work .cartesian) (as-long (g .kind) (g .positions) ∙ went g fine .room .exact)
+
   as-source : LoadsAsSource g w look
   as-source = record {
     same = same;
@@ -167,7 +206,7 @@ module _ (g : Given) (fine : judged g ≡ Fine) where
     filters = filters;
     filters-plain = filters-plain;
     by-number = by-number;
-    longest = calls s same .longest (rate-fine g fine);
+    longest = longest;
     own = own;
     source-own = source-own;
     left-response = λ k h. response k 0 (k * g .sizes .r * g .sizes .n) h (unfold startOf in omega arith);
@@ -175,6 +214,10 @@ module _ (g : Given) (fine : judged g ≡ Fine) where
     row = same .row;
     source-row = same .has-row;
     port-row = around;
+    past-left = past-left;
+    past-right = past-right;
+    past-neighbours = past-neighbours;
+    past-cartesian = past-cartesian;
   }
 
 -- ---- the two premises

@@ -1,7 +1,6 @@
 -- What a load that is not refused leaves is a loaded set, the premise of source_laws's `same`. Assumes nothing.
-use mathlib.Core.Path.{_≡_, refl, sym, ap, _∙_}
+use mathlib.Core.Path.{_≡_, refl, sym, ap}
 use mathlib.Core.List.{List}
-use Prim.Native.Nat.{ℕ, _+_, _*_, _<_}
 use native.Mathlib.Omega.{arith}
 use lib.ListN.{length}
 use lib.Ieee.{Float}
@@ -11,8 +10,8 @@ use Rattle.limits.specs.declared.Verdict.the-variants.{Fine}
 use Rattle.limits.proofs.Passed.{LoadPassed, load-passed}
 use Rattle.lookup.specs.Build.{linksOf, buildOf}
 use Rattle.neighbors.specs.Neighbors.{Tabled}
-use Rattle.loads.specs.Load.{Work, Load, cartesianFrom, indexed, placedIn, lengthsIn, loadBy, loadOf}
-use Rattle.loads.proofs.Ways.{as-long, filled}
+use Rattle.loads.specs.Load.{Load, cartesianFrom, indexed, placedIn, lengthsIn, loadBy, loadOf}
+use Rattle.loads.proofs.Ways.{filled}
 use Rattle.loads.proofs.Bare.{enough}
 use Rattle.source_laws.specs.Same as set
 use Rattle.load_laws.specs.Load.{Given, judged, loaded, setIn}
@@ -49,6 +48,8 @@ module _ (g : Given) (fine : judged g ≡ Fine) where
         finite = λ k h. positions-finite (g .kind) (g .positions) (g .work .cartesian) (P .known) (P .values) k (let z = P .room .exact in omega arith);
         angle-step = P .angle;
         links-before = linksOf (g .work .left) (g .work .right);
+        left-room = R .left;
+        right-room = R .right;
         left-links = refl;
         right-links = refl;
         table-before = g .work .neighbours;

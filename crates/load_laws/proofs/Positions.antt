@@ -1,45 +1,29 @@
 -- The front of the Cartesian list after a load: what the source copies or converts, and each of its points finite. Assumes nothing.
-use mathlib.Core.Path.{_≡_, refl, sym, ap, _∙_, subst}
+use mathlib.Core.Path.{_≡_, refl, _∙_, subst}
 use mathlib.Core.Bool.{true}
-use mathlib.Core.List.{List, [], _∷_}
-use Prim.Native.Nat.{ℕ, zero, suc, _+_, _*_, _<_, _≤_}
+use mathlib.Core.List.{List}
+use Prim.Native.Nat.{ℕ, zero, suc, _+_, _*_, _<_}
 use native.Mathlib.Omega.{arith}
 use lib.Dec.{T}
-use lib.ListN.{length, getD, drop, List·getD-append}
+use lib.ListN.{length, drop, List·getD-append}
 use lib.Ieee.{Float, nan, neg, round}
 use lib.Ieee.Scale.{finite}
 use borrow.Author.Tests.{eqb-true, ne-eqb}
 use Rattle.lists.specs.Over.{over}
-use Rattle.points.specs.declared.Point3.{Point3}
 use Rattle.points.specs.Points.{pointAt, Finite}
-use Rattle.limits.specs.Allowed.{nearest, within, kindOk, cartesianOk, positionOk}
+use Rattle.limits.specs.Allowed.{nearest, within, kindOk, positionOk}
 use Rattle.limits.proofs.Passed.{Allowed}
 use Rattle.limits.proofs.Ends.{between-finite, cartesian-finite}
-use Rattle.coords.specs.Coords.{cartesianOf, turnOf, alongOf}
-use Rattle.coords.specs.Arrays.{turned, lifted, byTriplets}
+use Rattle.coords.specs.Arrays.{turned, byTriplets}
 use Rattle.coords.proofs.Places.{changed-length}
-use Rattle.coord_laws.proofs.Inside.{Inside, list-inside}
+use Rattle.coord_laws.proofs.Inside.{list-inside}
 use Rattle.loads.specs.Load.{cartesianFrom}
-use Rattle.source.specs.Rust.{array}
-use Rattle.source.specs.Coords.{«spherical_to_cartesian», «convert_array_to_cartesian»}
 use Rattle.source.specs.Hrtf.{«convert_array_to_cartesian_if_spherical»}
 use Rattle.source_laws.specs.Drawn.{ported}
+use Rattle.source_laws.proofs.Turns.{to-cartesian}
 use Rattle.load_laws.specs.Load.{typeOf}
 
 -- ---- copied or converted
-
-turned-same : (p : Point3) → turned 1 p ≡ «spherical_to_cartesian» ported p
-unfolding turned cartesianOf turnOf alongOf «spherical_to_cartesian»
-turned-same p = refl
-
-converted-same : (xs : List Float) → byTriplets (turned 1) xs ≡ «convert_array_to_cartesian» ported xs
-unfolding byTriplets «convert_array_to_cartesian»
-converted-same [] = refl
-converted-same (a ∷ []) = refl
-converted-same (a ∷ b ∷ []) = refl
-converted-same (a ∷ b ∷ c ∷ rest) =
-    ap (λ (p : Point3). p .x ∷ p .y ∷ p .z ∷ byTriplets (turned 1) rest) (turned-same (array a b c))
-    ∙ ap (λ (l : List Float). let p = «spherical_to_cartesian» ported (array a b c) in p .x ∷ p .y ∷ p .z ∷ l) (converted-same rest)
 
 copied : (xs : List Float) → cartesianFrom 0 xs ≡ xs
 unfolding cartesianFrom
@@ -53,7 +37,7 @@ converted k xs = rw (ne-eqb (suc k) 0 (λ e. omega arith))
 pub positions-same : (kind : ℕ) (xs : List Float) → cartesianFrom kind xs ≡ «convert_array_to_cartesian_if_spherical» ported (typeOf kind) xs
 unfolding «convert_array_to_cartesian_if_spherical»
 positions-same zero xs = copied xs
-positions-same (suc k) xs = converted k xs ∙ converted-same xs
+positions-same (suc k) xs = converted k xs ∙ to-cartesian xs
 
 -- ---- finite
 

@@ -5,7 +5,7 @@
 use mathlib.Core.Path.{_≡_}
 use mathlib.Core.List.{List}
 use Prim.Native.Nat.{ℕ, zero, suc, _*_, _<_}
-use lib.ListN.{length, take}
+use lib.ListN.{length, take, drop}
 use lib.Ieee.{Float}
 use Rattle.points.specs.declared.Point3.{Point3}
 use Rattle.points.specs.Points.{Finite}
@@ -148,3 +148,8 @@ pub record LoadsAsSource (g : Given) (w : Work) (look : Lookup) : Type 0 where
   pub row : ℕ → Neighbors
   pub source-row : (k : ℕ) → k < g .sizes .m → get (same .sofar .neighborhood) k ≡ Some (row k)
   pub port-row : (k : ℕ) → k < g .sizes .m → aroundOf (g .sizes) (w .neighbours) k ≡ Six (listedSix (row k))
+  -- each list is written up to the length that document 01 asks, and nothing past it
+  pub past-left : drop (g .sizes .m) (w .left) ≡ drop (g .sizes .m) (g .work .left)
+  pub past-right : drop (g .sizes .m) (w .right) ≡ drop (g .sizes .m) (g .work .right)
+  pub past-neighbours : drop (6 * g .sizes .m) (w .neighbours) ≡ drop (6 * g .sizes .m) (g .work .neighbours)
+  pub past-cartesian : drop (3 * g .sizes .m) (w .cartesian) ≡ drop (3 * g .sizes .m) (g .work .cartesian)

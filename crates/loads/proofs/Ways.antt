@@ -20,12 +20,11 @@ use Rattle.coords.proofs.Places.{changed-length}
 use Rattle.lookup.specs.declared.Lookup.{Lookup}
 use Rattle.lookup.specs.declared.Located.{Located}
 use Rattle.lookup.specs.declared.Located.the-variants.{At}
-use Rattle.lookup.specs.Build.{Built, Links, linksOf, linked, lookupOf, builtAs, buildOf}
+use Rattle.lookup.specs.Build.{Built, linksOf, linked, lookupOf, builtAs, buildOf}
 use Rattle.lookup_laws.specs.Loaded.{Room}
 use Rattle.neighbors.specs.Neighbors.{Tabled, tabledAs, entryOf, tableOf}
 use Rattle.neighbors.proofs.Table.{all-answered}
 use Rattle.neighbor_laws.proofs.Settled.{entries}
-use Rattle.loads.specs.declared.Loaded.{Loaded}
 use Rattle.loads.specs.declared.Loaded.the-variants.{Ready, Refused}
 use Rattle.loads.specs.Load.{Work, workOf, Load, loadAs, cartesianFrom, numberIn, indexed, placedIn, lengthsIn, loadBy, loadOf}
 

@@ -21,7 +21,6 @@ use Rattle.source.specs.Interpolate.{InterpolatedFilter, Weighted, extractDelay
 use Rattle.source.specs.Reader as reader
 use Rattle.source.specs.Reader.{Sofar, «fill_filter», filledOr}
 use Rattle.source_laws.specs.Drawn.{hrtfOf, heard}
-use Rattle.source_laws.proofs.Built.{inside}
 use Rattle.source_laws.proofs.Ears.{ear-same, adding-long, adding-at}
 use Rattle.source_laws.proofs.Delays as delay
 use Rattle.source_laws.proofs.Points.{shared, listed, AllIn}

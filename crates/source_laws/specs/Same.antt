@@ -1,7 +1,7 @@
 -- DEMAND 2 on one page: what a loaded set answers is what the source answers. Definitions only; the theorem `same` is in proofs/Same.antt.
 -- The source's side is the crate source's, the port's side the definitions that the contracts cite. All is bit for bit; NaN is one value. Where `min` and
 -- `max` meet +0 and -0, Rust leaves the sign open: the transcription keeps the earlier, as document 01 has it, so the statement is about a Rust that does so.
--- The reader's calls, whose checks come first, are in specs/Calls.antt. That a load leaves such a set is the crate load_laws's theorem.
+-- That a load leaves such a set, and what the reader's calls, whose checks come first, answer over it, is the crate load_laws's theorem.
 use mathlib.Core.Path.{_≡_}
 use mathlib.Core.List.{List}
 use Prim.Native.Nat.{ℕ, _*_, _≤_, _<_}
@@ -57,6 +57,8 @@ pub record Loaded (s : Set) : Type 0 where
   pub finite : (k : ℕ) → k < s .m → Finite (pointAt (s .cartesian) k)
   pub angle-step : angleStepOk (s .angle) ≡ true
   pub links-before : Links
+  pub left-room : s .m ≤ length (links-before .left)
+  pub right-room : s .m ≤ length (links-before .right)
   pub left-links : s .left ≡ buildOf (s .cartesian) (s .m) links-before .links .left
   pub right-links : s .right ≡ buildOf (s .cartesian) (s .m) links-before .links .right
   pub table-before : List ℕ
