@@ -23,15 +23,15 @@
  *
  * A link is bad where it is neither SOFA_ABSENT nor above the place that it stands at and below m (below count in a bare tree), a
  * neighbour where it is neither SOFA_ABSENT nor below m. A search meets a link when it comes to that side, a blend all six neighbours of
- * the nearest measurement. After a load none is bad, and no query is refused 9.
+ * the nearest measurement. In the lists as a load leaves them none is bad, and no query over them is refused 9.
  *
  * Where a field of a refused answer has nothing to say it is 0, or 65535 for a number. Each call below says:
  *
  *   lists    the least length of each; what each holds afterwards. One that is not named as written is only read.
  *   refused  the numbers, in the order in which they are checked, and what the lists then hold.
- *   stack    in bytes, as measured for the archive on x86-64 (tests/stack.c), the caller's arguments included. A level is one step down the
- *            tree: in a set that comes in no order there are about 35 for 16384 measurements, in one that is sorted along all three axes as
- *            many as measurements.
+ *   stack    in bytes, as measured for the archive (tests/stack.c) and rounded up, the arguments that are handed over on it included. A
+ *            level is one step down the tree: a set that comes in no order has about 35 for 16384 measurements, one that is sorted along
+ *            all three axes as many as measurements.
  */
 #ifndef SOFA_H
 #define SOFA_H
@@ -96,14 +96,14 @@ typedef struct {
 /*
  * The correctly rounded square root, of every float; NaN below -0.
  * refused  never
- * stack    40
+ * stack    128
  */
 float sofa_root(float x);
 
 /*
  * Sine and cosine of an angle in radians.
  * refused  7, place 0: x is not finite or beyond +-16; the value is +0
- * stack    104
+ * stack    128
  */
 sofa_value sofa_sine(float x);
 sofa_value sofa_cosine(float x);
@@ -111,7 +111,7 @@ sofa_value sofa_cosine(float x);
 /*
  * The angle of the point (x, y) in radians: its sign is y's, its magnitude at most the float nearest pi.
  * refused  7: y (place 0), else x (place 1) is not finite; the value is +0
- * stack    176
+ * stack    256
  */
 sofa_value sofa_arctangent(float y, float x);
 
@@ -121,7 +121,7 @@ sofa_value sofa_arctangent(float y, float x);
  * In place, three values at a time: x, y, z to azimuth, elevation (degrees) and radius, and back.
  * lists    values: any length; whole triplets are converted. One or two values left over are neither read nor written.
  * refused  4: a value of a whole triplet is not allowed for the kind that it comes from; values stay as they were
- * stack    224, 152
+ * stack    256
  */
 sofa_refusal sofa_to_spherical(float *values, size_t count);
 sofa_refusal sofa_to_cartesian(float *values, size_t count);
@@ -139,7 +139,7 @@ sofa_refusal sofa_to_cartesian(float *values, size_t count);
  *          Nothing else is written.
  * refused  3: a list is shorter than that, or count is 16384 or more; 9: a bad link on the way down. All lists stay as they were, the
  *          answer's box is all +0.
- * stack    240, and 112 a level
+ * stack    384, and 112 a level
  */
 sofa_inserted sofa_tree_insert(
     size_t count, sofa_box box,
@@ -155,7 +155,7 @@ sofa_inserted sofa_tree_insert(
  * lists    positions: 3count; left, right, numbers: count each
  * refused  3: a list is shorter than that, or count is above 16384; 9: a bad link is met, or visit count + 1 begins. The number is
  *          SOFA_ABSENT.
- * stack    216, and 400 a level
+ * stack    384, and 400 a level
  */
 sofa_found sofa_tree_nearest(
     size_t count, sofa_box box,
@@ -178,7 +178,7 @@ sofa_found sofa_tree_nearest(
  *          radius +, -
  *          Each of these entries is written, and nothing past them.
  * refused  1, 2, 3, 4, 5 (the angle step first), 6. All lists stay as they were, the lookup is all +0.
- * stack    792, and 400 a level
+ * stack    1024, and 400 a level
  */
 sofa_loaded sofa_load(
     uint32_t kind, sofa_sizes sizes,
@@ -195,7 +195,7 @@ sofa_loaded sofa_load(
  *
  * lists    cartesian: 3m; left, right: m each
  * refused  2, 3, 7, and 9 on the way. The number is SOFA_ABSENT.
- * stack    472, and 400 a level
+ * stack    640, and 400 a level
  */
 sofa_found sofa_find(
     sofa_sizes sizes, sofa_lookup lookup,
@@ -209,7 +209,7 @@ sofa_found sofa_find(
  *
  * lists    as sofa_find; coordinates: three values, the point drawn to the measured radii is written there
  * refused  as sofa_find; the coordinates stay as they were, for 9 too
- * stack    584, and 400 a level
+ * stack    768, and 400 a level
  */
 sofa_found sofa_find_mut(
     sofa_sizes sizes, sofa_lookup lookup,
@@ -227,7 +227,7 @@ sofa_found sofa_find_mut(
  *          receiver, else r or more are the first two for all, else there is no delay; the answer's are in seconds
  *          out_left, out_right: any length; all of each is written, the first n samples, as far as there is room, and +0 in the rest
  * refused  2, 3, 6, 7, and 9 on the way. Every sample of both outputs is +0, those beyond n too.
- * stack    1112, and 400 a level
+ * stack    1280, and 400 a level
  */
 sofa_filtered sofa_filter(
     sofa_sizes sizes, sofa_lookup lookup,
@@ -246,7 +246,7 @@ sofa_filtered sofa_filter(
  *
  * lists    cartesian: 3m; left, right: m each; responses: m*r*n; delays and outputs as in sofa_filter
  * refused  2, 3, 6, 7, and 9 on the way. Every sample of both outputs is +0, those beyond n too.
- * stack    648, and 400 a level
+ * stack    768, and 400 a level
  */
 sofa_filtered sofa_filter_nointerp(
     sofa_sizes sizes, sofa_lookup lookup,
@@ -264,7 +264,7 @@ sofa_filtered sofa_filter_nointerp(
  *
  * lists    responses: m*r*n; delays and outputs as in sofa_filter
  * refused  2, 3, 6, 8. Every sample of both outputs is +0, those beyond n too.
- * stack    296
+ * stack    384
  */
 sofa_filtered sofa_filter_number(
     sofa_sizes sizes,
@@ -279,7 +279,7 @@ sofa_filtered sofa_filter_number(
  *
  * lists    responses: m*r*n, not read
  * refused  2, 3, 8. The part is empty, start and count 0.
- * stack    184
+ * stack    256
  */
 sofa_part sofa_left_response(sofa_sizes sizes, const float *responses, size_t responses_count, size_t number);
 sofa_part sofa_right_response(sofa_sizes sizes, const float *responses, size_t responses_count, size_t number);
@@ -289,7 +289,7 @@ sofa_part sofa_right_response(sofa_sizes sizes, const float *responses, size_t r
  *
  * lists    neighbours: 6m
  * refused  2, 3, 8. Each entry is SOFA_ABSENT.
- * stack    88
+ * stack    128
  */
 sofa_neighbors sofa_neighbors_of(sofa_sizes sizes, const uint16_t *neighbours, size_t neighbours_count, size_t number);
 
@@ -298,7 +298,7 @@ sofa_neighbors sofa_neighbors_of(sofa_sizes sizes, const uint16_t *neighbours, s
  *
  * lists    delays: any length, in samples
  * refused  6; the value is +0
- * stack    56
+ * stack    128
  */
 sofa_value sofa_max_delay(const float *delays, size_t delays_count, float rate);
 

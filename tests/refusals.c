@@ -2,8 +2,9 @@
  * Each refusal, 1 to 9, met from C on every call that can give it, alone and together with each later one; and what each lent list holds
  * afterwards, byte for byte, with the bytes before and behind it. Then what successful calls write, and the ends of what is allowed.
  *
- * A fault spoils one argument of a call that would otherwise succeed. Where a call is refused 1, 2 or 3 it is made once more with lists
- * that no one may read or write: sizes whose products would wrap must not lead there.
+ * A fault spoils one argument of a call that would otherwise succeed. Each call is made once more with lists that end where memory ends, so
+ * that reading past an end shows too; and where it is refused 1, 2 or 3, with lists that no one may read or write: sizes whose products
+ * would wrap must not lead there.
  */
 #include <math.h>
 #include <stdio.h>
@@ -26,7 +27,8 @@ static const char *const list_name[LISTS] = {"positions", "responses", "delays",
 typedef unsigned char memory[LISTS][GUARD + 4 * ROOM + GUARD];
 static _Alignas(64) memory lent;
 static memory before;
-static unsigned char *closed; /* pages that no one may read or write */
+static unsigned char *closed;      /* pages that no one may read or write */
+static unsigned char *edge[LISTS]; /* for each list an end of memory: such a page behind one that may be used */
 
 typedef struct {
     uint32_t kind;
@@ -448,6 +450,17 @@ static void check_untouched(int call, arguments *a, const fault *f, size_t index
     check_refused(call, a, f, index, index);
 }
 
+/* The same call over lists that end where memory ends. */
+static void check_at_the_edge(int call, arguments *a, uint32_t reason, size_t place, size_t index) {
+    for (int l = 0; l < LISTS; l++) {
+        unsigned char *start = edge[l] - a->length[l] * width[l];
+        memcpy(start, a->at[l], a->length[l] * width[l]);
+        a->at[l] = start;
+    }
+    answer r = calls[call].ask(a);
+    check(r.reason == reason && r.place == place, calls[call].name, "at the edge of memory", index, r.reason);
+}
+
 static void check_faults(void) {
     for (int call = 0; call < CALLS; call++)
         for (size_t i = 0; i < FAULTS; i++) {
@@ -463,6 +476,9 @@ static void check_faults(void) {
                 if (i == j && faults[i].reason <= 3)
                     check_untouched(call, &a, &faults[i], i);
             }
+            arguments a = in_order();
+            spoil(&a, &faults[i]);
+            check_at_the_edge(call, &a, faults[i].reason, faults[i].place, i);
         }
 }
 
@@ -477,6 +493,8 @@ static void check_table(void) {
     for (int call = 0; call < CALLS; call++) {
         arguments a = in_order();
         check(calls[call].ask(&a).reason == 0, calls[call].name, "is refused in order", 0, 0);
+        a = in_order();
+        check_at_the_edge(call, &a, 0, 0, 0);
     }
 }
 
@@ -651,9 +669,16 @@ static void check_greatest(void) {
 }
 
 int main(void) {
-    closed = mmap(NULL, 1 << 16, PROT_NONE, MAP_PRIVATE | MAP_ANONYMOUS, -1, 0);
+    enum { PAGES = 1 << 16 };
+    closed = mmap(NULL, PAGES, PROT_NONE, MAP_PRIVATE | MAP_ANONYMOUS, -1, 0);
     if (closed == MAP_FAILED)
         return 2;
+    for (int l = 0; l < LISTS; l++) {
+        unsigned char *pages = mmap(NULL, 2 * PAGES, PROT_NONE, MAP_PRIVATE | MAP_ANONYMOUS, -1, 0);
+        if (pages == MAP_FAILED || mprotect(pages, PAGES, PROT_READ | PROT_WRITE) != 0)
+            return 2;
+        edge[l] = pages + PAGES;
+    }
     setvbuf(stdout, NULL, _IOLBF, 0);
     check_table();
     check_faults();

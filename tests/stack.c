@@ -1,6 +1,7 @@
 /*
- * How much stack each call takes: it is made in a thread whose stack was painted, and the paint that is left is counted. Searches and
- * inserts are made in chains of two depths, which gives the bytes of a level and the rest. Held to the figures of the header.
+ * How much stack each call takes: it is made in a thread whose stack was painted, and the paint that is gone is measured. Searches and
+ * inserts are made in chains of two depths, which gives the bytes of a level and the rest. Prints the call, the rest and the bytes of a
+ * level; tests/hosts holds them to the header's figures for each call, and here they are held to the header's limits for all.
  */
 #include <pthread.h>
 #include <stdio.h>
@@ -73,9 +74,14 @@ static void filter_number(void) {
     reason |= sofa_filter_number(s, responses, 2 * 64, values, 6, 48000, 0, OUT).reason;
 }
 
-static void parts(void) {
+static void left_response(void) {
     sofa_sizes s = {1, 3, 2, 64};
-    reason |= sofa_left_response(s, responses, 2 * 64, 0).reason | sofa_right_response(s, responses, 2 * 64, 0).reason;
+    reason |= sofa_left_response(s, responses, 2 * 64, 0).reason;
+}
+
+static void right_response(void) {
+    sofa_sizes s = {1, 3, 2, 64};
+    reason |= sofa_right_response(s, responses, 2 * 64, 0).reason;
 }
 
 static void six(void) {
@@ -100,7 +106,11 @@ static void root(void) {
 }
 
 static void sine(void) {
-    reason |= sofa_sine(15.5f).reason | sofa_cosine(15.5f).reason;
+    reason |= sofa_sine(15.5f).reason;
+}
+
+static void cosine(void) {
+    reason |= sofa_cosine(15.5f).reason;
 }
 
 static void arctangent(void) {
@@ -161,13 +171,12 @@ static void chain(size_t count) {
 static int failed;
 
 static void report(const char *name, size_t level, size_t most, size_t rest) {
-    int holds = level <= most && rest <= SOFA_STACK && reason == 0;
-    printf("%-16s %5zu bytes, and %3zu a level%s\n", name, rest, level, holds ? "" : "  above the header's figures, or refused");
-    failed |= !holds;
+    printf("%s %zu %zu\n", name, rest, level);
+    failed |= level > most || rest > SOFA_STACK || reason != 0;
 }
 
 /* In chains of two depths. */
-static void measure(const char *name, void (*call)(void), size_t shallow, size_t deep) {
+static void measure(const char *name, void (*call)(void), size_t most, size_t shallow, size_t deep) {
     size_t bytes[2], depths[2] = {shallow, deep};
     for (int i = 0; i < 2; i++) {
         chain(depths[i]);
@@ -176,29 +185,37 @@ static void measure(const char *name, void (*call)(void), size_t shallow, size_t
         bytes[i] = used(call);
     }
     size_t level = (bytes[1] - bytes[0]) / (deep - shallow);
-    report(name, level, call == insert ? SOFA_STACK_INSERT : SOFA_STACK_LEVEL, bytes[0] - level * shallow);
+    report(name, level, most, bytes[0] - level * shallow);
+}
+
+/* In a tree of one place, of which a search takes a level. */
+static void measure_flat(const char *name, void (*call)(void), size_t level) {
+    chain(1);
+    for (int i = 0; i < 6; i++)
+        values[i] = (float)(i % 3 + 1);
+    report(name, level, SOFA_STACK_LEVEL, used(call) - level);
 }
 
 int main(void) {
-    static const struct {
-        const char *name;
-        void (*call)(void);
-    } flat[] = {{"filter_number", filter_number}, {"left_response", parts},       {"neighbors_of", six}, {"max_delay", longest},
-                {"to_spherical", to_spherical},   {"to_cartesian", to_cartesian}, {"root", root},        {"sine", sine},
-                {"arctangent", arctangent},       {"filter of four", filter_four},  {"load of one", load_spherical}};
-    measure("tree_nearest", nearest, 16, MOST);
-    measure("tree_insert", insert, 16, MOST);
-    measure("find", find, 16, MOST);
-    measure("find_mut", find_mut, 16, MOST);
-    measure("filter", filter, 16, MOST);
-    measure("filter_nointerp", filter_nointerp, 16, MOST);
-    measure("load", load, 16, 528);
-    measure("load spherical", load_spherical, 16, 528);
-    for (size_t i = 0; i < sizeof flat / sizeof flat[0]; i++) {
-        chain(1);
-        for (int k = 0; k < 6; k++)
-            values[k] = (float)(k % 3 + 1);
-        report(flat[i].name, 0, 0, used(flat[i].call));
-    }
+    measure("tree_nearest", nearest, SOFA_STACK_LEVEL, 16, MOST);
+    measure("tree_insert", insert, SOFA_STACK_INSERT, 16, MOST);
+    measure("find", find, SOFA_STACK_LEVEL, 16, MOST);
+    measure("find_mut", find_mut, SOFA_STACK_LEVEL, 16, MOST);
+    measure("filter", filter, SOFA_STACK_LEVEL, 16, MOST);
+    measure("filter_nointerp", filter_nointerp, SOFA_STACK_LEVEL, 16, MOST);
+    measure("load", load, SOFA_STACK_LEVEL, 16, 528);
+    measure_flat("load", load_spherical, SOFA_STACK_LEVEL);
+    measure_flat("filter", filter_four, SOFA_STACK_LEVEL);
+    measure_flat("filter_number", filter_number, 0);
+    measure_flat("left_response", left_response, 0);
+    measure_flat("right_response", right_response, 0);
+    measure_flat("neighbors_of", six, 0);
+    measure_flat("max_delay", longest, 0);
+    measure_flat("to_spherical", to_spherical, 0);
+    measure_flat("to_cartesian", to_cartesian, 0);
+    measure_flat("root", root, 0);
+    measure_flat("sine", sine, 0);
+    measure_flat("cosine", cosine, 0);
+    measure_flat("arctangent", arctangent, 0);
     return failed;
 }

@@ -27,17 +27,8 @@ pub enum Reason {
 }
 
 impl Reason {
-    const ALL: [Reason; 9] = [
-        Reason::Kind,
-        Reason::Sizes,
-        Reason::Lists,
-        Reason::Position,
-        Reason::Step,
-        Reason::Rate,
-        Reason::NotFinite,
-        Reason::Number,
-        Reason::Link,
-    ];
+    const ALL: [Reason; 9] =
+        [Reason::Kind, Reason::Sizes, Reason::Lists, Reason::Position, Reason::Step, Reason::Rate, Reason::NotFinite, Reason::Number, Reason::Link];
 
     /// Document 01's number, 1 to 9.
     pub fn number(self) -> u32 {

@@ -56,10 +56,7 @@ impl Filtered {
 
 fn filtered(f: ffi::Filtered) -> Result<Filtered, Refusal> {
     said(f.reason, f.place)?;
-    let delays = Delays {
-        left: Seconds(f.ldelay),
-        right: Seconds(f.rdelay),
-    };
+    let delays = Delays { left: Seconds(f.ldelay), right: Seconds(f.rdelay) };
     Ok(match f.blended {
         0 => Filtered::Exact(delays),
         _ => Filtered::Blended(delays, f.points),
@@ -110,11 +107,7 @@ impl Index {
     }
 
     fn tree(&self) -> ffi::Tree<'_> {
-        ffi::Tree {
-            positions: &self.cartesian,
-            left: &self.left,
-            right: &self.right,
-        }
+        ffi::Tree { positions: &self.cartesian, left: &self.left, right: &self.right }
     }
 }
 
@@ -164,12 +157,7 @@ impl<L: AsRef<[f32]>> Set<L> {
         rate: f32,
     ) -> Result<Set<L>, Refusal> {
         let mut index = Index::room(sizes);
-        let work = ffi::Work {
-            left: &mut index.left,
-            right: &mut index.right,
-            neighbours: &mut index.neighbours,
-            cartesian: &mut index.cartesian,
-        };
+        let work = ffi::Work { left: &mut index.left, right: &mut index.right, neighbours: &mut index.neighbours, cartesian: &mut index.cartesian };
         let told = ffi::load(kind.0, sizes, positions, responses.as_ref(), angle_step, radius_step, rate, work);
         said(told.reason, told.place)?;
         index.lookup = told.lookup;
@@ -178,13 +166,7 @@ impl<L: AsRef<[f32]>> Set<L> {
 
     /// A set over an index that was kept from an earlier load. Nothing is checked here: each query checks what it needs.
     pub fn with_index(sizes: Sizes, index: Index, responses: L, delays: L, rate: f32) -> Set<L> {
-        Set {
-            sizes,
-            index,
-            responses,
-            delays,
-            rate,
-        }
+        Set { sizes, index, responses, delays, rate }
     }
 
     /// The sizes that the set was loaded with.
@@ -198,11 +180,7 @@ impl<L: AsRef<[f32]>> Set<L> {
     }
 
     fn sound(&self) -> ffi::Sound<'_> {
-        ffi::Sound {
-            responses: self.responses.as_ref(),
-            delays: self.delays.as_ref(),
-            rate: self.rate,
-        }
+        ffi::Sound { responses: self.responses.as_ref(), delays: self.delays.as_ref(), rate: self.rate }
     }
 
     /// The number of the measurement nearest to a point, which is first drawn to the measured radii. Refused 2, 3, 7, 9; over a loaded
@@ -222,29 +200,12 @@ impl<L: AsRef<[f32]>> Set<L> {
     /// direction. An output holds the taps as far as it has room, and +0 in the rest. Refused 2, 3, 6, 7, 9, over a loaded set only 7;
     /// every sample of both outputs is +0 then.
     pub fn filter(&self, at: Coordinates, left: &mut [f32], right: &mut [f32]) -> Result<Filtered, Refusal> {
-        filtered(ffi::filter(
-            self.sizes,
-            self.index.lookup,
-            self.index.tree(),
-            &self.index.neighbours,
-            self.sound(),
-            at,
-            left,
-            right,
-        ))
+        filtered(ffi::filter(self.sizes, self.index.lookup, self.index.tree(), &self.index.neighbours, self.sound(), at, left, right))
     }
 
     /// The filter of the nearest measurement as it is: always exact. Outputs and refusals are those of [`Set::filter`].
     pub fn filter_nointerp(&self, at: Coordinates, left: &mut [f32], right: &mut [f32]) -> Result<Filtered, Refusal> {
-        filtered(ffi::filter_nointerp(
-            self.sizes,
-            self.index.lookup,
-            self.index.tree(),
-            self.sound(),
-            at,
-            left,
-            right,
-        ))
+        filtered(ffi::filter_nointerp(self.sizes, self.index.lookup, self.index.tree(), self.sound(), at, left, right))
     }
 
     /// The filter of a measurement: always exact. Refused 2, 3, 6, 8, over a loaded set only 8; the outputs are those of [`Set::filter`].
@@ -269,14 +230,7 @@ impl<L: AsRef<[f32]>> Set<L> {
         let six = ffi::neighbors_of(self.sizes, &self.index.neighbours, number);
         said(six.reason, six.place)?;
         let at = |direction: usize| Some(six.entries[direction]).filter(|&n| n != ABSENT);
-        Ok(Neighbors {
-            phi_plus: at(0),
-            phi_minus: at(1),
-            theta_plus: at(2),
-            theta_minus: at(3),
-            radius_plus: at(4),
-            radius_minus: at(5),
-        })
+        Ok(Neighbors { phi_plus: at(0), phi_minus: at(1), theta_plus: at(2), theta_minus: at(3), radius_plus: at(4), radius_minus: at(5) })
     }
 
     /// The longest delay of the set, from +0 on, passing over NaN. A blended delay can be longer by a rounding. Refused 6, over a loaded

@@ -45,16 +45,7 @@ impl Tree {
     pub fn insert(&mut self, point: Coordinates, number: u16) -> Result<(), Refusal> {
         let count = self.len();
         self.room_for(count + 1);
-        let told = ffi::tree_insert(
-            count,
-            self.bounds,
-            &mut self.positions,
-            &mut self.left,
-            &mut self.right,
-            &mut self.numbers,
-            point,
-            number,
-        );
+        let told = ffi::tree_insert(count, self.bounds, &mut self.positions, &mut self.left, &mut self.right, &mut self.numbers, point, number);
         let done = said(told.reason, told.place);
         match done {
             Ok(()) => self.bounds = told.bounds,
@@ -73,11 +64,7 @@ impl Tree {
     /// The number of the nearest point, by document 01's rule for ties; `None` where the tree is empty. A NaN coordinate gives the first
     /// point's number. A tree that was filled by [`Tree::insert`] refuses nothing.
     pub fn nearest(&self, query: Coordinates) -> Result<Option<u16>, Refusal> {
-        let lists = ffi::Tree {
-            positions: &self.positions,
-            left: &self.left,
-            right: &self.right,
-        };
+        let lists = ffi::Tree { positions: &self.positions, left: &self.left, right: &self.right };
         let found = ffi::tree_nearest(self.len(), self.bounds, lists, &self.numbers, query);
         said(found.reason, found.place)?;
         Ok(if self.is_empty() { None } else { Some(found.number) })

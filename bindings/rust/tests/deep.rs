@@ -5,10 +5,7 @@ use sofa::{Index, Lookup, Set, Sizes};
 fn a_chain_of_all() {
     const M: usize = 16384;
     let index = Index {
-        lookup: Lookup {
-            radius_max: 2.0 * M as f32,
-            ..Lookup::default()
-        },
+        lookup: Lookup { radius_max: 2.0 * M as f32, ..Lookup::default() },
         left: vec![65535; M],
         right: (1..M as u16).chain([65535]).collect(),
         neighbours: vec![65535; 6 * M],

@@ -88,12 +88,7 @@ fn ready() -> Host {
 
 impl Host {
     fn load(&mut self) -> (u32, usize) {
-        let work = Work {
-            left: self.left.lend(),
-            right: self.right.lend(),
-            neighbours: self.neighbours.lend(),
-            cartesian: self.cartesian.lend(),
-        };
+        let work = Work { left: self.left.lend(), right: self.right.lend(), neighbours: self.neighbours.lend(), cartesian: self.cartesian.lend() };
         let told = ffi::load(self.kind, self.sizes, self.positions.get(), self.responses.get(), self.angle_step, self.radius_step, self.rate, work);
         if told.reason == 0 {
             self.lookup = told.lookup;
@@ -104,19 +99,11 @@ impl Host {
     }
 
     fn tree(&self) -> Tree<'_> {
-        Tree {
-            positions: self.cartesian.get(),
-            left: self.left.get(),
-            right: self.right.get(),
-        }
+        Tree { positions: self.cartesian.get(), left: self.left.get(), right: self.right.get() }
     }
 
     fn sound(&self) -> Sound<'_> {
-        Sound {
-            responses: self.responses.get(),
-            delays: self.delays.get(),
-            rate: self.rate,
-        }
+        Sound { responses: self.responses.get(), delays: self.delays.get(), rate: self.rate }
     }
 
     /// The three calls with outputs; the outputs are taken out and put back, so that the rest can be read beside them.
@@ -269,14 +256,7 @@ fn shared(h: &mut Host) {
     h.cartesian.lend()[..3 * M].fill(0.0);
     h.at = [1.0; 3];
     h.lookup.radius_max = 9.0;
-    h.lookup.bounds = BoundingBox {
-        min_x: -9.0,
-        min_y: -9.0,
-        min_z: -9.0,
-        max_x: 9.0,
-        max_y: 9.0,
-        max_z: 9.0,
-    };
+    h.lookup.bounds = BoundingBox { min_x: -9.0, min_y: -9.0, min_z: -9.0, max_x: 9.0, max_y: 9.0, max_z: 9.0 };
 }
 
 #[test]
@@ -328,6 +308,9 @@ fn a_conversion_leaves_the_rest() {
     let mut host = fresh();
     assert_eq!(host.to_spherical(), (0, 0));
     assert_eq!(host.values.get()[2..3], [3.0]);
-    assert_eq!(host.values.0[PAD + 6..].iter().map(|x| x.to_bits()).collect::<Vec<_>>(), fresh().values.0[PAD + 6..].iter().map(|x| x.to_bits()).collect::<Vec<_>>());
+    assert_eq!(
+        host.values.0[PAD + 6..].iter().map(|x| x.to_bits()).collect::<Vec<_>>(),
+        fresh().values.0[PAD + 6..].iter().map(|x| x.to_bits()).collect::<Vec<_>>()
+    );
     assert_eq!(host.values.0[..PAD], [-7.25; PAD]);
 }

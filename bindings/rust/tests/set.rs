@@ -12,10 +12,7 @@ fn two() -> Set<&'static [f32]> {
 }
 
 fn both(seconds: f32) -> Delays {
-    Delays {
-        left: Seconds(seconds),
-        right: Seconds(seconds),
-    }
+    Delays { left: Seconds(seconds), right: Seconds(seconds) }
 }
 
 /// The worked case of document 01's query program.
@@ -93,16 +90,19 @@ fn by_number() {
     assert_eq!(set.filter_number(0, &mut left, &mut right), Ok(Filtered::Exact(both(0.0078125))));
     assert_eq!((left, right), ([0.5], [0.25]));
     assert_eq!(set.max_delay(), Ok(Seconds(0.0078125)));
-    let alone = Neighbors {
-        phi_plus: None,
-        phi_minus: None,
-        theta_plus: None,
-        theta_minus: None,
-        radius_plus: None,
-        radius_minus: None,
-    };
+    let alone = Neighbors { phi_plus: None, phi_minus: None, theta_plus: None, theta_minus: None, radius_plus: None, radius_minus: None };
     assert_eq!(set.neighbors_of(0), Ok(alone));
-    let circle = Set::load(Kind::SPHERICAL, Sizes { m: 3, n: 0, ..SIZES }, &[0.0, 0.0, 1.0, 40.0, 0.0, 1.0, 320.0, 0.0, 1.0], vec![], vec![], 5.0, 0.01, 48000.0).unwrap();
+    let circle = Set::load(
+        Kind::SPHERICAL,
+        Sizes { m: 3, n: 0, ..SIZES },
+        &[0.0, 0.0, 1.0, 40.0, 0.0, 1.0, 320.0, 0.0, 1.0],
+        vec![],
+        vec![],
+        5.0,
+        0.01,
+        48000.0,
+    )
+    .unwrap();
     let around = circle.neighbors_of(0).unwrap();
     assert_eq!((around.phi_plus, around.phi_minus, around.radius_plus), (Some(1), Some(2), None));
 }
