@@ -207,6 +207,14 @@ enum {
     LOUD = FILTERS | NUMBER /* calls that have outputs */
 };
 
+/* where a call stands among the calls */
+static int index_of(unsigned call) {
+    int index = 0;
+    while ((call >> index & 1) == 0)
+        index++;
+    return index;
+}
+
 /* ---- the faults, in the order in which they are met */
 
 enum { KIND, SIZE_M, SIZE_C, SIZE_R, SIZE_N, LENGTH, REAL, SHORT, ANGLE_STEP, RADIUS_STEP, RATE, X, Y, Z, A_NUMBER, COUNT, SHARED };
@@ -526,7 +534,7 @@ static void check_load_writes(uint32_t kind) {
             check(seed == 0 || same(lent[l] + GUARD, first[l] + GUARD, bytes), "load", "leaves an entry", kind, (size_t)l);
             memcpy(before[l], lent[l], sizeof lent[l]);
         }
-        check_lists(0, &a, kind, (size_t)seed); /* all others as they were */
+        check_lists(index_of(LOAD), &a, kind, (size_t)seed); /* all others as they were */
         memcpy(first, lent, sizeof lent);
     }
 }
@@ -551,43 +559,54 @@ static void check_outputs(int call) {
     }
 }
 
-static void check_writes(void) {
-    check_load_writes(SOFA_CARTESIAN);
-    check_load_writes(SOFA_SPHERICAL);
-    check_outputs(3), check_outputs(4), check_outputs(5);
-
-    arguments a = in_order(); /* two values left over are neither read nor written */
+/* Two values left over are neither read nor written. */
+static void check_conversion_writes(void) {
+    arguments a = in_order();
     REALS(&a, VALUES)[6] = NAN, REALS(&a, VALUES)[7] = 1e38f;
     memcpy(before, lent, sizeof lent);
     check(to_spherical(&a).reason == 0, "to_spherical", "is refused", 0, 0);
     memcpy(before[VALUES] + GUARD, lent[VALUES] + GUARD, 4 * 6);
-    check_lists(10, &a, 0, 0);
+    check_lists(index_of(TO_SPHERICAL), &a, 0, 0);
+}
 
-    a = in_order(); /* an insert writes its own cells and one link */
+/* An insert writes its own cells and one link. */
+static void check_insert_writes(void) {
+    static const size_t first[LISTS] = {[LEFT] = M, [RIGHT] = M, [CARTESIAN] = 3 * M, [NUMBERS] = M};
+    static const size_t cells[LISTS] = {[LEFT] = 1, [RIGHT] = 1, [CARTESIAN] = 3, [NUMBERS] = 1};
+    arguments a = in_order();
+    size_t linked = 0;
     memcpy(before, lent, sizeof lent);
     check(insert(&a).reason == 0, "tree_insert", "is refused", 0, 0);
-    int linked = 0;
     for (int i = 0; i < M; i++)
         for (int l = LEFT; l <= RIGHT; l++)
             if (SHORTS(&a, l)[i] == M) {
                 linked++;
                 memcpy(before[l] + GUARD + 2 * i, lent[l] + GUARD + 2 * i, 2);
             }
-    check(linked == 1, "tree_insert", "writes one link", (size_t)linked, 0);
-    check(SHORTS(&a, LEFT)[M] == SOFA_ABSENT && SHORTS(&a, RIGHT)[M] == SOFA_ABSENT && SHORTS(&a, NUMBERS)[M] == 77, "tree_insert", "cells", 0, 0);
-    check(REALS(&a, CARTESIAN)[3 * M] == a.x && REALS(&a, CARTESIAN)[3 * M + 1] == a.y && REALS(&a, CARTESIAN)[3 * M + 2] == a.z, "tree_insert",
-          "position", 0, 0);
-    for (int l = LEFT; l <= NUMBERS; l++)
-        memcpy(before[l] + GUARD + (l == CARTESIAN ? 3 * M : M) * width[l], lent[l] + GUARD + (l == CARTESIAN ? 3 * M : M) * width[l],
-               l == NEIGHBOURS ? 0 : (l == CARTESIAN ? 3 : 1) * width[l]);
-    check_lists(12, &a, 0, 0);
+    const float *p = REALS(&a, CARTESIAN) + 3 * M;
+    check(linked == 1, "tree_insert", "writes one link", linked, 0);
+    check(SHORTS(&a, LEFT)[M] == SOFA_ABSENT && SHORTS(&a, RIGHT)[M] == SOFA_ABSENT, "tree_insert", "its own links", 0, 0);
+    check(SHORTS(&a, NUMBERS)[M] == 77 && p[0] == a.x && p[1] == a.y && p[2] == a.z, "tree_insert", "number and position", 0, 0);
+    for (int l = 0; l < LISTS; l++)
+        memcpy(before[l] + GUARD + first[l] * width[l], lent[l] + GUARD + first[l] * width[l], cells[l] * width[l]);
+    check_lists(index_of(INSERT), &a, 0, 0);
+}
 
-    a = in_order(); /* find_mut leaves the point drawn to the measured radii */
-    REALS(&a, POINT)[0] = 4, REALS(&a, POINT)[1] = 0, REALS(&a, POINT)[2] = 0;
-    check(sofa_find_mut(a.sizes, a.lookup, TREE(&a), REALS(&a, POINT)).number == 0, "find_mut", "number", 0, 0);
-    check(REALS(&a, POINT)[0] == 1 && REALS(&a, POINT)[1] == 0 && REALS(&a, POINT)[2] == 0, "find_mut", "the point", 0, 0);
+/* find_mut leaves the point drawn to the measured radii. */
+static void check_find_mut_writes(void) {
+    arguments a = in_order();
+    float *p = REALS(&a, POINT);
+    p[0] = 4, p[1] = 0, p[2] = 0;
+    memcpy(before, lent, sizeof lent);
+    check(sofa_find_mut(a.sizes, a.lookup, TREE(&a), p).number == 0, "find_mut", "number", 0, 0);
+    check(p[0] == 1 && p[1] == 0 && p[2] == 0, "find_mut", "the point", 0, 0);
+    memcpy(before[POINT] + GUARD, lent[POINT] + GUARD, 3 * width[POINT]);
+    check_lists(index_of(FIND_MUT), &a, 0, 0);
+}
 
-    a = in_order(); /* an exact query meets no neighbour: a bad one does not refuse it */
+/* An exact query meets no neighbour: a bad one does not refuse it. */
+static void check_exact_meets_none(void) {
+    arguments a = in_order();
     a.x = 1, a.y = 0, a.z = 0;
     SHORTS(&a, NEIGHBOURS)[0] = M;
     check(filter(&a).reason == 0, "filter", "exact over a bad neighbour", 0, 0);
@@ -603,10 +622,11 @@ static void check_allowed(const char *what, unsigned mask, arguments *a) {
             check(calls[call].ask(a).reason == 0, calls[call].name, what, 0, 0);
 }
 
-static void check_ends(void) {
+static void check_value_ends(void) {
     static const float rates[2] = {1000, 384000}, steps[2] = {0.1f, 45}, radius_steps[2] = {0.001f, 1}, waves[3] = {16, -16, -0.0f};
+    arguments a;
     for (int i = 0; i < 2; i++) {
-        arguments a = in_order();
+        a = in_order();
         a.rate = rates[i];
         check_allowed("a rate at the end", RATED, &a);
         a.angle_step = steps[i], a.radius_step = radius_steps[i];
@@ -615,24 +635,31 @@ static void check_ends(void) {
         check_allowed("a position at the end", LOAD, &a);
     }
     for (int i = 0; i < 3; i++) {
-        arguments a = in_order();
+        a = in_order();
         a.x = waves[i];
         check_allowed("an angle at the end", WAVES | ARCTANGENT, &a);
     }
+    a = in_order();
+    REALS(&a, VALUES)[0] = 720, REALS(&a, VALUES)[1] = -720, REALS(&a, VALUES)[2] = -0.0f, REALS(&a, VALUES)[5] = 10000;
+    check_allowed("angles and radii at the ends", TO_CARTESIAN, &a);
+}
+
+static void check_size_ends(void) {
     arguments a = in_order();
     a.sizes = (sofa_sizes){1, 3, 8, 0}; /* nothing is read of the responses: an empty list will do */
     a.length[POSITIONS] = 3, a.length[RESPONSES] = 0, a.number = 0;
     check_allowed("sizes at the ends", SIZED, &a);
-    a = in_order();
-    REALS(&a, VALUES)[0] = 720, REALS(&a, VALUES)[1] = -720, REALS(&a, VALUES)[2] = -0.0f, REALS(&a, VALUES)[5] = 10000;
-    check_allowed("angles and radii at the ends", TO_CARTESIAN, &a);
     a = in_order();
     a.number = M - 1;
     check_allowed("the last number", NUMBER | PARTS | SIX, &a);
     a.count = 0;
     check(sofa_tree_nearest(0, a.lookup.box, TREE(&a), LEND_SHORTS(&a, NUMBERS), 0, 0, 0).number == SOFA_ABSENT, "tree_nearest", "empty", 0, 0);
     check_allowed("an empty tree", INSERT | NEAREST, &a);
-    a = in_order();
+}
+
+/* Beside a count of 0 a pointer is not used. */
+static void check_no_pointers(void) {
+    arguments a = in_order();
     a.sizes.n = a.count = 0;
     for (int l = 0; l < LISTS; l++)
         if (l == RESPONSES || l == DELAYS || l == VALUES || l >= OUT_LEFT)
@@ -662,7 +689,8 @@ static void check_greatest(void) {
             check(l.reason == (m > GREAT ? 2u : s == 0 ? 0u : 5u) && l.place == 0, "load", "the greatest set", m, (size_t)s);
             if (l.reason != 0)
                 continue;
-            sofa_found f = sofa_find(sizes, l.lookup, cartesian, 3 * m, left, m, right, m, positions[3 * m - 3], positions[3 * m - 2], positions[3 * m - 1]);
+            const float *last = positions + 3 * (m - 1);
+            sofa_found f = sofa_find(sizes, l.lookup, cartesian, 3 * m, left, m, right, m, last[0], last[1], last[2]);
             check(f.reason == 0 && f.number == m - 1, "find", "the last measurement", m, f.number);
         }
     }
@@ -682,8 +710,15 @@ int main(void) {
     setvbuf(stdout, NULL, _IOLBF, 0);
     check_table();
     check_faults();
-    check_writes();
-    check_ends();
+    check_load_writes(SOFA_CARTESIAN), check_load_writes(SOFA_SPHERICAL);
+    check_outputs(index_of(FILTER)), check_outputs(index_of(PLAIN)), check_outputs(index_of(NUMBER));
+    check_conversion_writes();
+    check_insert_writes();
+    check_find_mut_writes();
+    check_exact_meets_none();
+    check_value_ends();
+    check_size_ends();
+    check_no_pointers();
     check_greatest();
     printf("refusals from C: %lu checks, %lu failed\n", checks, failed);
     return failed != 0;
