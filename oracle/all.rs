@@ -2,9 +2,11 @@
 //! `sofar`, either with its angle functions redirected to the port's or unchanged.
 //!
 //! all SEED SMALL LARGE [list]: prints the first twenty differences, with `list` each of them, and one line of counts.
+//! all SEED SETS 0 sample: writes the records that crates/replay asks the port again (sample.rs).
 
 mod port;
 mod refusals;
+mod sample;
 mod sets;
 
 use port::{Host, Lookup, Outputs, Sizes};
@@ -207,13 +209,16 @@ fn compare_number(set: &Set, source: &Sofar, h: &Host, number: usize, r: &mut Ra
     t.numbers("neighbours", &entries(source, number), &around.entries);
 }
 
+/// Lists with none, one or two values left over.
 fn compare_conversions(r: &mut Random, t: &mut Tally) {
-    let mut source = sets::loose(0, r);
+    let count = 3 * r.below(6) + r.below(3);
+    let mut source = sets::loose(0, count, r);
     let mut port = source.clone();
     coords::convert_array_to_spherical(&mut source);
     t.number("to spherical: reason", 0, 0, port::to_spherical(&mut port).reason as usize);
     t.values("to spherical", &source, &port);
-    let mut source = sets::loose(1, r);
+    let count = 3 * r.below(6) + r.below(3);
+    let mut source = sets::loose(1, count, r);
     let mut port = source.clone();
     coords::convert_array_to_cartesian(&mut source);
     t.number("to cartesian: reason", 0, 0, port::to_cartesian(&mut port).reason as usize);
@@ -263,6 +268,9 @@ fn main() {
     let count = |i: usize| args[i].parse::<u64>().expect("a whole number");
     let (seed, small, large) = (count(1), count(2), count(3));
     let every = args.get(4).is_some_and(|a| a == "list");
+    if args.get(4).is_some_and(|a| a == "sample") {
+        return sample::write(seed, small);
+    }
     let work = move || run(seed, small, large, every);
     let t = std::thread::Builder::new().stack_size(STACK).spawn(work).unwrap().join().unwrap();
     let [exact, blended @ ..] = t.points;

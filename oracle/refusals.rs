@@ -24,7 +24,7 @@ fn bad_sizes(h: &mut Host, r: &mut Random) {
 }
 
 /// A value that its place does not allow: coordinates by kind 0, angles and radius by kind 1.
-fn bad_value(kind: u32, axis: usize, r: &mut Random) -> f32 {
+pub fn bad_value(kind: u32, axis: usize, r: &mut Random) -> f32 {
     match (r.below(3), kind, axis) {
         (0, _, _) => f32::NAN,
         (1, _, _) => r.of(&[f32::INFINITY, f32::NEG_INFINITY]),
@@ -35,7 +35,7 @@ fn bad_value(kind: u32, axis: usize, r: &mut Random) -> f32 {
 }
 
 /// One thing wrong with a load; the number and place that document 01 gives it.
-fn spoil_load(reason: u32, h: &mut Host, r: &mut Random) -> (u32, usize) {
+pub fn spoil_load(reason: u32, h: &mut Host, r: &mut Random) -> (u32, usize) {
     let m = h.sizes.m;
     match reason {
         1 => {

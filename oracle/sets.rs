@@ -317,6 +317,12 @@ pub fn small(number: u64, r: &mut Random) -> Set {
     with(FAMILIES[number as usize % FAMILIES.len()], m, n, r)
 }
 
+/// At most 8 measurements of 4 taps.
+pub fn tiny(number: u64, r: &mut Random) -> Set {
+    let (m, n) = (1 + r.below(8), r.below(5));
+    with(FAMILIES[number as usize % FAMILIES.len()], m, n, r)
+}
+
 /// Families in which one search meets many ties or goes along a chain: large sets of these are kept short, and so are their searches.
 const LONG: [&str; 8] = ["grid of points", "duplicates", "chain", "limits, cartesian", "limits, spherical", "zeros", "ring", "below 0.001"];
 
@@ -382,9 +388,8 @@ pub fn query(points: &[f32], r: &mut Random) -> [f32; 3] {
     q.map(|v| if v.is_finite() { v } else { 1.0 })
 }
 
-/// A list for the conversions, from Cartesian (0) or spherical (1), with none, one or two values left over.
-pub fn loose(kind: u32, r: &mut Random) -> Vec<f32> {
-    let count = 3 * r.below(6) + r.below(3);
+/// A list for the conversions, from Cartesian (0) or spherical (1).
+pub fn loose(kind: u32, count: usize, r: &mut Random) -> Vec<f32> {
     let one = |i: usize| match (kind, r.below(3), i % 3) {
         (0, 0, _) => r.of(&EDGES),
         (0, 1, _) => r.between(-10000.0, 10000.0),
