@@ -1,26 +1,37 @@
 /*
- * sofa.h: what a C host can call. Each call answers for every input: there is nothing to check beforehand but that the pointers lead
- * to as many elements as the counts beside them say, and that lists which are written do not overlap others.
+ * sofa.h: what a C host can call. Each call answers for every input. A host sees to three things only: each pointer leads to as many
+ * elements as the count beside it says (beside a count of 0 it is not used), a list that is written does not overlap another one, and
+ * the thread has the stack that the call wants.
  *
  * A list is lent as a pointer and a count of elements. Nothing is allocated, nothing is kept between calls: a set is the lists that
- * the host holds and a sofa_lookup by value.
+ * the host holds and a sofa_lookup by value. Calls share no state: several threads may go by the same lists as long as none writes them.
  *
  * An answer's `reason` is 0, or the number of the refusal that was met first:
  *
- *   1  the position kind is neither 0 (cartesian) nor 1 (spherical)             place: the kind
- *   2  m, c, r or n is not allowed                                              place: 0
- *   3  a lent list is too short, or the positions are not 3m long               place: 0
- *   4  a position value is not allowed                                          place: its first index
- *   5  a step is not allowed                                                    place: 0 angle, 1 radius
- *   6  the rate is not allowed                                                  place: 0
- *   7  a coordinate or an angle's argument is not finite, or is beyond +-16     place: the axis, or the argument from 0
- *   8  a measurement number is m or more                                        place: the number
- *   9  a link or a neighbour is bad, or the search would visit more than m      place: 0
+ *   1  the position kind is neither 0 (cartesian) nor 1 (spherical)                          place: the kind
+ *   2  m, c, r or n is not allowed                                                           place: 0
+ *   3  a lent list is too short, or the positions are not 3m long; a bare tree is full       place: 0
+ *   4  a position value is not allowed                                                       place: its first index
+ *   5  a step is not allowed                                                                 place: 0 angle, 1 radius
+ *   6  the rate is not allowed                                                               place: 0
+ *   7  a coordinate or an angle's argument is not finite; sine and cosine: beyond +-16       place: the axis, or the argument from 0
+ *   8  a measurement number is m or more                                                     place: the number
+ *   9  a link or a neighbour is bad, or a search would visit more places than there are      place: 0
  *
  * Allowed: m 1..16384, c exactly 3, r 2..8, n 0..8192; cartesian coordinates of magnitude at most 10000; angles in degrees of
  * magnitude at most 720, radius 0..10000; angle step 0.1..45, radius step 0.001..1; rate 1000..384000; responses and delays any float.
  *
- * Where a field of a refused answer has nothing to say it is 0, or 65535 for a number.
+ * A link is bad where it is neither SOFA_ABSENT nor above the place that it stands at and below m (below count in a bare tree), a
+ * neighbour where it is neither SOFA_ABSENT nor below m. A search meets a link when it comes to that side, a blend all six neighbours of
+ * the nearest measurement. In the lists as a load leaves them none is bad, and no query over them is refused 9.
+ *
+ * Where a field of a refused answer has nothing to say it is 0, or 65535 for a number. Each call below says:
+ *
+ *   lists    the least length of each; what each holds afterwards. One that is not named as written is only read.
+ *   refused  the numbers, in the order in which they are checked, and what the lists then hold.
+ *   stack    in bytes, as measured for the archive (tests/stack.c) and rounded up, the arguments that are handed over on it included. A
+ *            level is one step down the tree: a set that comes in no order has about 35 for 16384 measurements, one that is sorted along
+ *            all three axes as many as measurements.
  */
 #ifndef SOFA_H
 #define SOFA_H
@@ -35,6 +46,14 @@ extern "C" {
 #define SOFA_ABSENT 65535u
 #define SOFA_CARTESIAN 0u
 #define SOFA_SPHERICAL 1u
+
+/*
+ * The stack that a call wants at most, in bytes: SOFA_STACK, and SOFA_STACK_LEVEL more for each level of the tree that it searches, or
+ * SOFA_STACK_INSERT for each level that a bare insert goes down. 6.3 MiB are enough for any call.
+ */
+#define SOFA_STACK 2048u
+#define SOFA_STACK_LEVEL 400u
+#define SOFA_STACK_INSERT 112u
 
 typedef struct { uint32_t reason; size_t place; } sofa_refusal;
 typedef struct { uint32_t reason; size_t place; float value; } sofa_value;
@@ -74,19 +93,35 @@ typedef struct {
 
 /* ---- numbers */
 
-/* The correctly rounded square root, of every float: never refused. */
+/*
+ * The correctly rounded square root, of every float; NaN below -0.
+ * refused  never
+ * stack    128
+ */
 float sofa_root(float x);
 
-/* Refused 7: the argument is not finite or beyond +-16; of the arctangent, y (place 0) or x (place 1) is not finite. */
+/*
+ * Sine and cosine of an angle in radians.
+ * refused  7, place 0: x is not finite or beyond +-16; the value is +0
+ * stack    128
+ */
 sofa_value sofa_sine(float x);
 sofa_value sofa_cosine(float x);
+
+/*
+ * The angle of the point (x, y) in radians: its sign is y's, its magnitude at most the float nearest pi.
+ * refused  7: y (place 0), else x (place 1) is not finite; the value is +0
+ * stack    256
+ */
 sofa_value sofa_arctangent(float y, float x);
 
 /* ---- coordinates */
 
 /*
- * In place, three values at a time: x, y, z to azimuth, elevation (degrees), radius, and back. Refused 4: a value of a whole triplet
- * is not allowed for the kind that it comes from; nothing is written then. One or two values left over are neither read nor written.
+ * In place, three values at a time: x, y, z to azimuth, elevation (degrees) and radius, and back.
+ * lists    values: any length; whole triplets are converted. One or two values left over are neither read nor written.
+ * refused  4: a value of a whole triplet is not allowed for the kind that it comes from; values stay as they were
+ * stack    256
  */
 sofa_refusal sofa_to_spherical(float *values, size_t count);
 sofa_refusal sofa_to_cartesian(float *values, size_t count);
@@ -95,10 +130,16 @@ sofa_refusal sofa_to_cartesian(float *values, size_t count);
 
 /*
  * A tree of `count` places over four lists: positions (3 values a place), left, right (links, SOFA_ABSENT for none) and numbers (the
- * number kept with each place). Any float may stand in it. Start with count 0 and any box; after each insert that is not refused
- * count is one more and the box is the answer's.
+ * number kept with each place). Any float may stand in it. Start with count 0 and any box; after each insert that is not refused count
+ * is one more and the box is the answer's.
  *
- * Refused 3: a list has no room for one more, or 16384 are in. 9: a bad link is met. Refused, nothing is written.
+ * lists    positions: 3(count + 1), the point is written at 3count, 3count + 1, 3count + 2
+ *          left, right: count + 1 each, SOFA_ABSENT is written at count; for count above 0 also one absent link, to count
+ *          numbers: count + 1, number is written at count
+ *          Nothing else is written.
+ * refused  3: a list is shorter than that, or count is 16384 or more; 9: a bad link on the way down. All lists stay as they were, the
+ *          answer's box is all +0.
+ * stack    384, and 112 a level
  */
 sofa_inserted sofa_tree_insert(
     size_t count, sofa_box box,
@@ -110,7 +151,11 @@ sofa_inserted sofa_tree_insert(
 
 /*
  * The number of the nearest place; SOFA_ABSENT with reason 0 for an empty tree. A NaN coordinate gives the root's number.
- * Refused 3: a list is shorter than count asks, or count is above 16384. 9: a bad link is met, or visit count + 1 begins.
+ *
+ * lists    positions: 3count; left, right, numbers: count each
+ * refused  3: a list is shorter than that, or count is above 16384; 9: a bad link is met, or visit count + 1 begins. The number is
+ *          SOFA_ABSENT.
+ * stack    384, and 400 a level
  */
 sofa_found sofa_tree_nearest(
     size_t count, sofa_box box,
@@ -123,14 +168,17 @@ sofa_found sofa_tree_nearest(
 /* ---- a set */
 
 /*
- * Makes a set ready. kind is SOFA_CARTESIAN or SOFA_SPHERICAL; positions are exactly 3m values, responses at least m*r*n (receivers within
- * measurements). Lent for work, at least: left and right m each, neighbours 6m, cartesian 3m.
+ * Makes a set ready. kind is SOFA_CARTESIAN or SOFA_SPHERICAL. Responses are taps within receivers within measurements. Keep the answer's
+ * lookup and the four lists that are written: the queries go by them.
  *
- * Refused 1 to 6, in that order; nothing is written then, and the lookup is all +0. Otherwise cartesian holds the positions in its first
- * 3m values (copied, or converted from spherical), left and right the links of the tree in their first m entries, neighbours the six
- * neighbours of each measurement in its first 6m, each SOFA_ABSENT or a measurement: azimuth +, -, elevation +, -, radius +, -. Past these
- * lengths nothing is written; positions and responses are only read. Keep the lookup and the four lists: the queries go by them. A load
- * never answers 9.
+ * lists    positions: exactly 3m; responses: m*r*n, not read
+ *          cartesian: 3m, the positions are written to the first 3m, copied, or converted from spherical
+ *          left, right: m each, the links of the tree are written to the first m, each SOFA_ABSENT or above its place and below m
+ *          neighbours: 6m, six for each measurement are written to the first 6m, each SOFA_ABSENT or below m: azimuth +, -, elevation +, -,
+ *          radius +, -
+ *          Each of these entries is written, and nothing past them.
+ * refused  1, 2, 3, 4, 5 (the angle step first), 6. All lists stay as they were, the lookup is all +0.
+ * stack    1024, and 400 a level
  */
 sofa_loaded sofa_load(
     uint32_t kind, sofa_sizes sizes,
@@ -143,10 +191,11 @@ sofa_loaded sofa_load(
     float *cartesian, size_t cartesian_count);
 
 /*
- * The number of the measurement nearest to a point, which is first drawn to the measured radii. At least: cartesian 3m, left and right m
- * each. Refused 2, 3, 7 and, where a bad link is met on the way, 9; the number is SOFA_ABSENT then.
+ * The number of the measurement nearest to a point, which is first drawn to the measured radii.
  *
- * sofa_find_mut leaves the point drawn to the measured radii in coordinates, three values; refused, they stay.
+ * lists    cartesian: 3m; left, right: m each
+ * refused  2, 3, 7, and 9 on the way. The number is SOFA_ABSENT.
+ * stack    640, and 400 a level
  */
 sofa_found sofa_find(
     sofa_sizes sizes, sofa_lookup lookup,
@@ -154,6 +203,14 @@ sofa_found sofa_find(
     const uint16_t *left, size_t left_count,
     const uint16_t *right, size_t right_count,
     float x, float y, float z);
+
+/*
+ * The same of a point x, y, z in coordinates.
+ *
+ * lists    as sofa_find; coordinates: three values, the point drawn to the measured radii is written there
+ * refused  as sofa_find; the coordinates stay as they were, for 9 too
+ * stack    768, and 400 a level
+ */
 sofa_found sofa_find_mut(
     sofa_sizes sizes, sofa_lookup lookup,
     const float *cartesian, size_t cartesian_count,
@@ -162,12 +219,15 @@ sofa_found sofa_find_mut(
     float *coordinates);
 
 /*
- * The filter at a point, to out_left and out_right. At least: cartesian 3m, left and right m each, neighbours 6m, responses m*r*n; delays
- * and the outputs may have any length. Delays are in samples there and in seconds in the answer: m of them are one per measurement for
- * both ears, else m*r or more are per measurement and receiver, else r or more are the first two for all, else there is no delay.
+ * The filter at a point: the nearest measurement as it is where the point is closer to it than 1e-6 (or all weights come to less than
+ * 1e-10), else its blend with the closer neighbour of each pair.
  *
- * An output holds the first n samples, or as many as it has room for, and +0 in the rest. Refused 2, 3, 6, 7 and, where a bad link or a bad
- * neighbour is met on the way, 9: every sample of both outputs is +0 then.
+ * lists    cartesian: 3m; left, right: m each; neighbours: 6m; responses: m*r*n
+ *          delays: any length, in samples: m of them are one per measurement for both ears, else m*r or more are per measurement and
+ *          receiver, else r or more are the first two for all, else there is no delay; the answer's are in seconds
+ *          out_left, out_right: any length; all of each is written, the first n samples, as far as there is room, and +0 in the rest
+ * refused  2, 3, 6, 7, and 9 on the way. Every sample of both outputs is +0, those beyond n too.
+ * stack    1280, and 400 a level
  */
 sofa_filtered sofa_filter(
     sofa_sizes sizes, sofa_lookup lookup,
@@ -181,7 +241,13 @@ sofa_filtered sofa_filter(
     float *out_left, size_t out_left_count,
     float *out_right, size_t out_right_count);
 
-/* The same without the blend: the nearest measurement as it is, always exact. It is given no neighbours. */
+/*
+ * The filter of the nearest measurement as it is, always exact. It is given no neighbours.
+ *
+ * lists    cartesian: 3m; left, right: m each; responses: m*r*n; delays and outputs as in sofa_filter
+ * refused  2, 3, 6, 7, and 9 on the way. Every sample of both outputs is +0, those beyond n too.
+ * stack    768, and 400 a level
+ */
 sofa_filtered sofa_filter_nointerp(
     sofa_sizes sizes, sofa_lookup lookup,
     const float *cartesian, size_t cartesian_count,
@@ -193,7 +259,13 @@ sofa_filtered sofa_filter_nointerp(
     float *out_left, size_t out_left_count,
     float *out_right, size_t out_right_count);
 
-/* A measurement's filter by its number, always exact. Responses at least m*r*n. Refused 2, 3, 6, 8; the outputs are as above. */
+/*
+ * The filter of a measurement by its number, always exact.
+ *
+ * lists    responses: m*r*n; delays and outputs as in sofa_filter
+ * refused  2, 3, 6, 8. Every sample of both outputs is +0, those beyond n too.
+ * stack    384
+ */
 sofa_filtered sofa_filter_number(
     sofa_sizes sizes,
     const float *responses, size_t responses_count,
@@ -203,16 +275,31 @@ sofa_filtered sofa_filter_number(
     float *out_right, size_t out_right_count);
 
 /*
- * Where a measurement's taps for the left or the right ear stand in responses, which are at least m*r*n: `count` (n) taps from `start` on.
- * Refused 2, 3, 8; the part is empty then, start and count 0.
+ * Where a measurement's taps for the left or the right ear stand in responses: `count` (n) taps from `start` on.
+ *
+ * lists    responses: m*r*n, not read
+ * refused  2, 3, 8. The part is empty, start and count 0.
+ * stack    256
  */
 sofa_part sofa_left_response(sofa_sizes sizes, const float *responses, size_t responses_count, size_t number);
 sofa_part sofa_right_response(sofa_sizes sizes, const float *responses, size_t responses_count, size_t number);
 
-/* A measurement's six entries as they stand in neighbours, which are at least 6m. Refused 2, 3, 8; each is SOFA_ABSENT then. */
+/*
+ * A measurement's six entries as they stand, bad ones too.
+ *
+ * lists    neighbours: 6m
+ * refused  2, 3, 8. Each entry is SOFA_ABSENT.
+ * stack    128
+ */
 sofa_neighbors sofa_neighbors_of(sofa_sizes sizes, const uint16_t *neighbours, size_t neighbours_count, size_t number);
 
-/* The longest delay in seconds, from +0 on, passing over NaN; any count. Refused 6; the value is +0 then. */
+/*
+ * The longest delay in seconds, from +0 on, passing over NaN. A blended delay can be longer by a rounding.
+ *
+ * lists    delays: any length, in samples
+ * refused  6; the value is +0
+ * stack    128
+ */
 sofa_value sofa_max_delay(const float *delays, size_t delays_count, float rate);
 
 #ifdef __cplusplus

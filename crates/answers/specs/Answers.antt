@@ -3,6 +3,7 @@ use Prim.Native.Nat.{ℕ, _*_}
 use mathlib.Core.List.{List}
 use lib.ListN.{take, length}
 use lib.Ieee.{Float}
+use Rattle.lists.specs.Over.{over}
 use Rattle.points.specs.declared.Point3.{Point3}
 use Rattle.limits.specs.declared.Sizes.{Sizes}
 use Rattle.lookup.specs.declared.Lookup.{Lookup}
@@ -36,3 +37,20 @@ blockFor f nearest = blockOf (f .answer) nearest (f .left) (f .right)
 -- the block of a query
 unfoldable pub answerOf : State → Lookup → Work → List Float → List Float → Point3 → List ℕ
 answerOf s look d responses delays q = blockFor (filteredOf s look d responses delays q) (nearestOf s look d q)
+
+-- what the call leaves: the number of bytes of the block, the list with the block at its front, and both responses
+pub record Answered : Type 0 where
+  pub count : ℕ
+  pub out : List ℕ
+  pub left : List Float
+  pub right : List Float
+
+abbrev pub answeredAs : ℕ → List ℕ → List Float → List Float → Answered
+answeredAs k out l r = record { count = k; out = out; left = l; right = r }
+
+-- the block b and the responses of f, over the list `out`
+abbrev pub blockInto : List ℕ → Filter → List ℕ → Answered
+blockInto b f out = answeredAs (length b) (over b out) (f .left) (f .right)
+
+unfoldable pub answeredOf : State → Lookup → Work → List Float → List Float → Point3 → List ℕ → Answered
+answeredOf s look d responses delays q out = blockInto (answerOf s look d responses delays q) (filteredOf s look d responses delays q) out

@@ -1,13 +1,14 @@
 // What a set in the text form answers, over the lists that its lines filled: `load` after its last line, and the block of each query.
 //
-// `load` equals `setOf` and `answer` writes `answerOf` (specs/Answers.antt), by the definitions of crates `loads`, `lookup`, `reader` and `blocks`.
+// `load` equals `setOf` and `answer` equals `answeredOf`, which writes the block `answerOf` (specs/Answers.antt), by the definitions of crates
+// `loads`, `lookup`, `reader` and `blocks`. proofs/Few.antt: a set that was loaded has two ears and a measurement, so that n is at most 2048
+// (`ready-few`).
 ghost use mathlib.Core.Path.{_≡_};
 ghost use Prim.Native.Nat.{_+_, _*_, _≤_};
 ghost use lib.ListN.{length};
-ghost use Rattle.lists.specs.Over.{over};
 ghost use Rattle.interpolate.specs.Blend.{filterOf};
 ghost use Rattle.loads.specs.Load.{workOf, loadAs};
-ghost use Rattle.answers.specs.Answers.{sizesIn, setOf, nearestOf, filteredOf, answerOf};
+ghost use Rattle.answers.specs.Answers.{sizesIn, setOf, nearestOf, filteredOf, answeredAs, answeredOf};
 use delays::Outcome;
 use limits::Sizes;
 use loads::Loaded;
@@ -109,7 +110,7 @@ fn ask(
     )
 }
 
-// The block of a query at the front of out: how many bytes it has. Both outputs are n values long, and are written over.
+// The block of a query at the front of out: how many bytes it has. Both outputs are n values long, and hold the filter then.
 pub fn answer(
     s: State,
     look: Lookup,
@@ -125,8 +126,8 @@ pub fn answer(
     out: &mut [u8],
 ) -> usize
     requires { ⌜ (s .delays ≤ length (now delays)) × (length (now «out_left») ≡ s .n) × (length (now «out_right») ≡ s .n) × (18 * (s .n) + 120 ≤ length (now out)) ⌝ }
-    ensures { λ r. ⌜ (r ≡ length (answerOf s look (workOf (now (left .entry)) (now (right .entry)) (now (neighbours .entry)) (now (cartesian .entry))) (now (responses .entry)) (now (delays .entry)) q))
-        × (now (out .exit) ≡ over (answerOf s look (workOf (now (left .entry)) (now (right .entry)) (now (neighbours .entry)) (now (cartesian .entry))) (now (responses .entry)) (now (delays .entry)) q) (now (out .entry))) ⌝ }
+    ensures { λ r. ⌜ answeredAs r (now (out .exit)) (now («out_left» .exit)) (now («out_right» .exit))
+        ≡ answeredOf s look (workOf (now (left .entry)) (now (right .entry)) (now (neighbours .entry)) (now (cartesian .entry))) (now (responses .entry)) (now (delays .entry)) q (now (out .entry)) ⌝ }
 {
     let number = nearest(s, look, cartesian, left, right, neighbours, q);
     let outcome = ask(

@@ -48,9 +48,9 @@ filter w k p l r left right =
     let t = delaysText l r in
     omega (arith, length-append (h ++ a ++ b) t, length-append (h ++ a) b, length-append h a, head w k p, values (bytes "left=") left, values (bytes "right=") right, both l r)
 
-refused : (k p : ℕ) → length (refusedText k p) ≤ 70
+pub refused-room : (k p : ℕ) → length (refusedText k p) ≤ 70
 unfolding refusedText bytes
-refused k p =
+refused-room k p =
     let w = wordLine (bytes "answer=refused") in
     omega (arith, length-append (w ++ countLine (bytes "reason=") k) (countLine (bytes "place=") p), length-append w (countLine (bytes "reason=") k), word (bytes "answer=refused"), count (bytes "reason=") k, count (bytes "place=") p)
 
@@ -59,7 +59,7 @@ pub block-room : (o : Outcome) (k : ℕ) (left right : List Float) → length (b
 unfolding bytes
 block-room (Exact l r) k left right = omega (arith, filter (bytes "answer=exact") k 1 l r left right)
 block-room (Blended l r p) k left right = omega (arith, filter (bytes "answer=blended") k p l r left right)
-block-room (Refused reason place) k left right = omega (arith, refused reason place)
+block-room (Refused reason place) k left right = omega (arith, refused-room reason place)
 
 pub error-room : (k : ℕ) → length (formError k) ≤ 40
 unfolding formError bytes

@@ -1,7 +1,7 @@
 // What the query program prints, as bytes in a lent list: the block of a query, and the form error.
 //
 // `block` writes `blockOf` and `form_error` writes `formError` (specs/Blocks.antt) to the front of the list, and the rest of the list stays.
-// `block-room` and `error-room` (proofs/Rooms.antt) say how many bytes are enough: 9 for each value and 120 more, and 40.
+// `block-room`, `refused-room` and `error-room` (proofs/Rooms.antt) say how many bytes are enough: 9 for each value and 120 more, 70 and 40.
 ghost use mathlib.Core.Path.{_≡_};
 ghost use Prim.Native.Nat.{_+_, _*_, _≤_};
 ghost use mathlib.Core.List.{[], _∷_, _++_};
@@ -144,7 +144,8 @@ fn filter_block(
     both_delays(ldelay, rdelay, out, c)
 }
 
-fn refused_block(reason: usize, place: usize, out: &mut [u8]) -> usize
+// The refused block at the front of out: how many bytes it has.
+pub fn refused_block(reason: usize, place: usize, out: &mut [u8]) -> usize
     requires { ⌜ Room 0 (refusedText reason place) (now out) ⌝ }
     ensures { λ r. ⌜ Wrote 0 (refusedText reason place) (now (out .entry)) r (now (out .exit)) ⌝ }
 {

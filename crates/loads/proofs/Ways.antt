@@ -20,12 +20,11 @@ use Rattle.coords.proofs.Places.{changed-length}
 use Rattle.lookup.specs.declared.Lookup.{Lookup}
 use Rattle.lookup.specs.declared.Located.{Located}
 use Rattle.lookup.specs.declared.Located.the-variants.{At}
-use Rattle.lookup.specs.Build.{Built, Links, linksOf, linked, lookupOf, builtAs, buildOf}
+use Rattle.lookup.specs.Build.{Built, linksOf, linked, lookupOf, builtAs, buildOf}
 use Rattle.lookup_laws.specs.Loaded.{Room}
 use Rattle.neighbors.specs.Neighbors.{Tabled, tabledAs, entryOf, tableOf}
 use Rattle.neighbors.proofs.Table.{all-answered}
 use Rattle.neighbor_laws.proofs.Settled.{entries}
-use Rattle.loads.specs.declared.Loaded.{Loaded}
 use Rattle.loads.specs.declared.Loaded.the-variants.{Ready, Refused}
 use Rattle.loads.specs.Load.{Work, workOf, Load, loadAs, cartesianFrom, numberIn, indexed, placedIn, lengthsIn, loadBy, loadOf}
 
@@ -77,7 +76,8 @@ module _ (m : ℕ) (angle radius : Float) (left right neigh : List ℕ) (xs : Li
   answered : (k : ℕ) → entry* k ≡ At (numberIn (entry* k))
   answered k = let e = entries xs m (linksOf left right) room look* angle radius k .is in e ∙ sym (ap (λ (x : Located). At (numberIn x)) e)
 
-  filled : tableOf look* m xs left* right* angle radius neigh ≡ tabledAs verdict.Fine (over (upto (λ k. numberIn (entry* k)) (6 * m)) neigh)
+  -- the whole table is written, and nothing refused on the way
+  pub filled : tableOf look* m xs left* right* angle radius neigh ≡ tabledAs verdict.Fine (over (upto (λ k. numberIn (entry* k)) (6 * m)) neigh)
   unfolding tableOf
   filled = all-answered entry* (λ k. numberIn (entry* k)) neigh (6 * m) (λ k l. answered k) fits
 

@@ -24,18 +24,7 @@ use Rattle.settext.specs.State.{startOf, numberOf, totalOf, counted, wentOf, ba
 use Rattle.settext.specs.Lines.{Lists, After, gives, asked, when, plain, pickAfter, posLine, irLine, delayLine, product, kindOf, keys, keyLine, formLine, kindLine, mLine, rLine, nLine, rateLine, astepLine, rstepLine, delaysLine, valuesLine, queryLine, lineOf}
 use Rattle.settext.proofs.Laws.{behind-within, product-is}
 use Rattle.setread.specs.Text.{stateOf, onLine}
-
--- the number of lines read, n, m, r and the count of delays
-pub record Kept (k n m r d : ℕ) : Type 0 where
-  pub taps : n ≤ 4096
-  pub points : m ≤ 256
-  pub product : m * r * n ≤ 4096
-  -- n is not read before the fifth line
-  pub unread : k < 5 → n ≡ 0
-  pub delays : d ≤ 4096
-
-abbrev pub Reached : State → Type 0
-Reached s = Kept (s .lines) (s .n) (s .m) (s .r) (s .delays)
+use Rattle.setread.specs.Kept.{Kept, Reached}
 
 pub begins-so : Reached startOf
 begins-so = record { taps = lit≤ tt; points = lit≤ tt; product = lit≤ tt; unread = λ h. refl; delays = lit≤ tt }
@@ -118,7 +107,8 @@ module _ (s : State) (few : Reached s) (l : List ℕ) where
       by (At p) = next
       by Nowhere = bad s
 
-  line : (d : Lists) → Few (lineOf s l d .step)
+  -- the next line keeps the limits
+  pub line : (d : Lists) → Few (lineOf s l d .step)
   unfolding lineOf keyLine valuesLine
   line d = by (ltb (s .lines) 9) (ltb i (s .m)) (ltb j (s .m * s .r)) (ltb e (s .delays))
     where
@@ -138,7 +128,6 @@ module _ (s : State) (few : Reached s) (l : List ℕ) where
       by false false false true = if-good (valuesFit (bytes "delay=") 1 e l (d .delays)) s s next
       by false false false false = query
 
--- the next line keeps the limits
 pub stays : (a : After) (l : List ℕ) → Reached (stateOf (a .step)) → Reached (stateOf (onLine a l .step))
 unfolding onLine
 stays a l h = line (stateOf (a .step)) h l (a .lists)

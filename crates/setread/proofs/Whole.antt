@@ -18,7 +18,8 @@ use Rattle.settext.specs.declared.End.{End}
 use Rattle.settext.specs.Lines.{Lists, After, endOf}
 use Rattle.setread.specs.Text.{stateOf, isBad, ended, onLine, begun, closeOf, Outcome, outcome, readText, chunkOf, feed, joined}
 use Rattle.setread.proofs.Long.{long-lines}
-use Rattle.setread.proofs.Reached.{Reached, begins-so, stays}
+use Rattle.setread.specs.Kept.{Reached}
+use Rattle.setread.proofs.Reached.{begins-so, stays}
 
 -- chunk after chunk is the machine over all of them
 fed : (room : ℕ) (a : At After) (cs : List (List ℕ)) → feed room a cs ≡ chunkOf room a (joined cs)
@@ -31,7 +32,7 @@ left-over : (room : ℕ) (r : List ℕ) → eqb (length (take (suc room) r)) 0 �
 left-over room [] = refl
 left-over room (x ∷ r) = ne-eqb (suc (length (take room r))) 0 (λ e. omega arith) ∙ sym (ne-eqb (suc (length r)) 0 (λ e. omega arith))
 
-end-of : (room : ℕ) (s : State) (h rest : List ℕ) → h ≡ rest → endOf s (take (suc room) h) ≡ endOf s rest
+pub end-of : (room : ℕ) (s : State) (h rest : List ℕ) → h ≡ rest → endOf s (take (suc room) h) ≡ endOf s rest
 unfolding endOf
 end-of room s h rest e = rw (left-over room h, e)
 

@@ -1,2 +1,3 @@
 pub mod Across
 pub mod Carried
+pub mod Unique

@@ -4,6 +4,8 @@
 // nothing was refused; any other is document 01's number, with its place. The definitions in specs/
 // say what stands for each case: Border for the angles, Tree for the bare tree (tree.rt), Convert for
 // the conversions (convert.rt), Set for a set (set.rt).
+//
+// proofs/Unique.antt: no contract here leaves a choice, proved of each function's own contract.
 ghost use mathlib.Core.Path.{_≡_};
 ghost use Rattle.root.specs.Root.{rootOf};
 ghost use Rattle.angles.specs.Says.{sineSays, cosineSays, arctanSays};

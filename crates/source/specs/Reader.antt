@@ -1,4 +1,4 @@
--- src/reader.rs: filter, filter_nointerp, fill_filter and max_delay. Definitions only. A `Filter` that is filled is returned.
+-- src/reader.rs: opening a set, filter, filter_nointerp, fill_filter and max_delay. Definitions only. A `Filter` that is filled is returned.
 use mathlib.Core.List.{List, [], _∷_, _++_}
 use Prim.Native.Nat.{ℕ, _-_, min}
 use lib.ListN.{length, take, replicate}
@@ -7,6 +7,7 @@ use Rattle.floats.specs.Floats.{zero32, maxOf}
 use Rattle.points.specs.declared.Point3.{Point3}
 use Rattle.source.specs.Rust.{Option, None, Some, Angles, array}
 use Rattle.source.specs.Lookup.{Hrtf, Lookup, newLookup, find}
+use Rattle.source.specs.Hrtf.{CoordType, «convert_to_cartesian»}
 use Rattle.source.specs.Neighbors.{Neighbors, newNeighborhood}
 use Rattle.source.specs.Interpolate.{InterpolatedFilter, interpolate, «get_filter_nointerp»}
 
@@ -23,7 +24,8 @@ pub record Sofar : Type 0 where
   pub lookup : Lookup
   pub neighborhood : List Neighbors
 
--- OpenOptions::open_data, from `Lookup::new` on: what it makes of positions that are Cartesian
+-- OpenOptions::open_data, from `Lookup::new` on: what it makes of positions that are Cartesian; and from `convert_to_cartesian` on, without resampling and
+-- normalising, for the values that a file holds and the attribute "Type" of its source positions
 unfoldable pub openedBy : Angles → Hrtf → Float → Float → Option Lookup → Option Sofar
 openedBy platform hrtf «neighbor_angle_step» «neighbor_radius_step» None = None
 openedBy platform hrtf «neighbor_angle_step» «neighbor_radius_step» (Some lookup) =
@@ -31,6 +33,10 @@ openedBy platform hrtf «neighbor_angle_step» «neighbor_radius_step» (Some lo
 
 unfoldable pub opened : Angles → Hrtf → Float → Float → Option Sofar
 opened platform hrtf «neighbor_angle_step» «neighbor_radius_step» = openedBy platform hrtf «neighbor_angle_step» «neighbor_radius_step» (newLookup platform hrtf)
+
+unfoldable pub «open_data» : Angles → Option CoordType → Hrtf → Float → Float → Option Sofar
+«open_data» platform «coord_type» hrtf «neighbor_angle_step» «neighbor_radius_step» =
+    opened platform («convert_to_cartesian» platform «coord_type» hrtf) «neighbor_angle_step» «neighbor_radius_step»
 
 -- Sofar::fill_filter: one ear, copied up to the shorter length and +0 from there on; and the whole
 unfoldable pub fillEar : List Float → List Float → List Float

@@ -21,7 +21,6 @@ use Rattle.source.specs.Interpolate.{InterpolatedFilter, Weighted, extractDelay
 use Rattle.source.specs.Reader as reader
 use Rattle.source.specs.Reader.{Sofar, «fill_filter», filledOr}
 use Rattle.source_laws.specs.Drawn.{hrtfOf, heard}
-use Rattle.source_laws.proofs.Built.{inside}
 use Rattle.source_laws.proofs.Ears.{ear-same, adding-long, adding-at}
 use Rattle.source_laws.proofs.Delays as delay
 use Rattle.source_laws.proofs.Points.{shared, listed, AllIn}
@@ -33,11 +32,11 @@ module _ (m r n : ℕ) (xs resp delays : List Float) (rate : Float) (small : m �
   -- ---- where the taps of a measurement stand
 
   module _ (k : ℕ) (hk : k < m) where
-    start-left : k * r * n ≡ startOf r n 0 k
+    pub start-left : k * r * n ≡ startOf r n 0 k
     unfolding startOf
     start-left = omega arith
 
-    start-right : k * r * n + n ≡ startOf r n 1 k
+    pub start-right : k * r * n + n ≡ startOf r n 1 k
     unfolding startOf
     start-right = omega arith
 
@@ -51,6 +50,19 @@ module _ (m r n : ℕ) (xs resp delays : List Float) (rate : Float) (small : m �
 
   part-at : (a b i : ℕ) → a ≡ b → i < n → getD (take n (drop a resp)) i nan ≡ getD resp (b + i) nan
   part-at a b i e h = getD-take n (drop a resp) i nan h ∙ getD-drop a resp i nan ∙ ap (λ (c : ℕ). getD resp (c + i) nan) e
+
+  -- what the source extracts of a measurement
+  abbrev pub own : ℕ → InterpolatedFilter
+  own k = record {
+    left = take n (drop (k * r * n) resp);
+    right = take n (drop (k * r * n + n) resp);
+    «delay_left» = extractDelays delays m r k .«delay_left»;
+    «delay_right» = extractDelays delays m r k .«delay_right»;
+  }
+
+  pub extracted : (k : ℕ) → k < m → «extract_filter» set k n r ≡ Some (own k)
+  unfolding «extract_filter»
+  extracted k hk = ap (λ (b : Bool). cond b None (Some (own k))) (le-ltb (length resp) (k * r * n + n + n) (ends k hk))
 
   module _ (sofar : Sofar) (is : sofar .hrtf ≡ set) (out : reader.Filter) where
     -- what is filled in, where the two ears and the two delays are known
@@ -69,22 +81,11 @@ module _ (m r n : ℕ) (xs resp delays : List Float) (rate : Float) (small : m �
 
     -- THE PLAIN FILTER
     pub extract-same : (k : ℕ) → k < m → filledOr sofar out («extract_filter» set k n r) ≡ heard (Extracted k)
-    extract-same k hk = ap (filledOr sofar out) (opened k hk) ∙ (unfold extractOf in
+    extract-same k hk = ap (filledOr sofar out) (extracted k hk) ∙ (unfold extractOf in
         filled (own k) (λ i. tapOf resp r n 0 i k) (λ i. tapOf resp r n 1 i k) (plainDelay delays m r 0 k .0) (plainDelay delays m r 1 k .0)
         (part-long (k * r * n) (let z = ends k hk in omega arith)) (part-long (k * r * n + n) (ends k hk))
         (λ i h. part-at (k * r * n) (startOf r n 0 k) i (start-left k hk) h) (λ i h. part-at (k * r * n + n) (startOf r n 1 k) i (start-right k hk) h)
         (ap (λ (d : source.Delays). d .«delay_left») (delay.extract-same delays m r k hk two)) (ap (λ (d : source.Delays). d .«delay_right») (delay.extract-same delays m r k hk two)))
-      where
-        own : ℕ → InterpolatedFilter
-        own k = record {
-          left = take n (drop (k * r * n) resp);
-          right = take n (drop (k * r * n + n) resp);
-          «delay_left» = extractDelays delays m r k .«delay_left»;
-          «delay_right» = extractDelays delays m r k .«delay_right»;
-        }
-
-        opened : (k : ℕ) → k < m → «extract_filter» set k n r ≡ Some (own k)
-        opened k hk = unfold «extract_filter» in ap (λ (b : Bool). cond b None (Some (own k))) (le-ltb (length resp) (k * r * n + n + n) (ends k hk))
 
   -- ---- points added up
 

@@ -14,24 +14,15 @@ use Rattle.points.specs.declared.Point3.{Point3}
 use Rattle.points.specs.Points.{pointAt}
 use Rattle.kdtree.specs.declared.BoundingBox.{BoundingBox}
 use Rattle.kdtree.specs.Geometry.{grown}
-use Rattle.coords.specs.Coords.{sphericalOf, radiusOf}
-use Rattle.walks.proofs.Pruned.{Clean}
-use Rattle.walks.proofs.Rep.{graft, graft-clean}
-use Rattle.lookup.specs.declared.Lookup.{Lookup}
 use Rattle.lookup.specs.Build.{boxTo, leastOf, greatestOf}
-use Rattle.source.specs.Rust.{Option, None, Some, array, at}
-use Rattle.source.specs.Coords.{«cartesian_to_spherical»}
+use Rattle.source.specs.Rust.{Option, None, Some, at}
 use Rattle.source.specs.Kdtree as source
 use Rattle.source.specs.Kdtree.{KdNode, kdNode, Link, none, some, newBox, extend, grownBy, insert, «insert_rec», newTree, «is_empty»}
 use Rattle.source.specs.Lookup as looked
 use Rattle.source.specs.Lookup.{triplet, unmeasured, measured, measuring, newLookup}
-use Rattle.source_laws.specs.Drawn.{boxed, flat, ported, hrtfOf}
+use Rattle.source_laws.specs.Drawn.{flat, ported, hrtfOf}
+use Rattle.source_laws.proofs.Turns.{spherical-same}
 use Rattle.source_laws.proofs.Shapes.{flat-new, flat-extend}
-use Rattle.source_laws.proofs.Insert.{insert-same}
-use Rattle.source_laws.proofs.Linked.{grownTo}
-
-abbrev pub place : ℕ → ℕ
-place i = i
 
 -- what the source has after n turns of its loop
 unfoldable pub measuredTo : List Float → ℕ → looked.Lookup
@@ -67,25 +58,6 @@ loop xs m (suc k) i h l =
     more : (i : ℕ) → measured ported (measuredTo xs i) (pointAt xs i) i ≡ measuredTo xs (i + 1)
     more i = unfold measuredTo in ap (measuredTo xs) (sym (add-one i))
 
--- ---- the tree
-
-pub grown-clean : (xs : List Float) (n : ℕ) → Clean (grownTo xs n)
-unfolding grownTo
-grown-clean xs zero = (tt, tt)
-grown-clean xs (suc n) = graft-clean (suc n) (pointAt xs (suc n)) (grownTo xs n) 0 (grown-clean xs n)
-
--- THE SOURCE'S TREE is the one that the links draw
-pub root-same : (xs : List Float) (n : ℕ) → measuredTo xs (suc n) .kdtree .root ≡ boxed place (grownTo xs n) 0
-unfolding measuredTo measured insert
-root-same xs zero = unfold boxed grownTo «insert_rec» newTree in refl
-root-same xs (suc n) =
-    ap (λ (l : Link). «insert_rec» l (pointAt xs (suc n)) (suc n) 0) (root-same xs n)
-    ∙ sym (insert-same place (suc n) (pointAt xs (suc n)) (grownTo xs n) 0 0 refl (grown-clean xs n))
-    ∙ step
-  where
-    step : boxed place (graft (suc n) (pointAt xs (suc n)) (grownTo xs n) 0) 0 ≡ boxed place (grownTo xs (suc n)) 0
-    step = unfold grownTo in refl
-
 -- ---- the box
 
 unfoldable pub boxBy : List Float → ℕ → source.BoundingBox
@@ -106,10 +78,6 @@ box-same xs zero = flat-new (pointAt xs 0)
 box-same xs (suc n) = flat-extend (boxBy xs n) (pointAt xs (suc n)) ∙ ap (λ (b : BoundingBox). grown b (pointAt xs (suc n))) (box-same xs n)
 
 -- ---- the six bounds
-
-pub spherical-same : (p : Point3) → «cartesian_to_spherical» ported p ≡ array (sphericalOf p .azimuth) (sphericalOf p .elevation) (sphericalOf p .radius)
-unfolding «cartesian_to_spherical» sphericalOf radiusOf
-spherical-same p = refl
 
 pub record SixSame (xs : List Float) (n : ℕ) (look : looked.Lookup) : Type 0 where
   pub phi-least : look .«phi_min» ≡ leastOf (λ s. s .azimuth) xs n

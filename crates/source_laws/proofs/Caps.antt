@@ -2,7 +2,7 @@
 use mathlib.Core.Path.{_≡_, refl, sym, ap, subst}
 use mathlib.Core.Bool.{Bool, true, false, cond, not}
 use lib.Dec.{T}
-use lib.Ieee.{Float, nan, inf, fin, binary32, neg, lt, le, isNan, ofBits}
+use lib.Ieee.{Float, nan, inf, fin, binary32, neg, lt, isNan, ofBits}
 use Rattle.floats.specs.Floats.{zero32, absOf, maxOf}
 use Rattle.floats.proofs.Cross.{is-true}
 use Rattle.floats.proofs.Preorder.{lt-le-trans, lt→le, le→not-lt}

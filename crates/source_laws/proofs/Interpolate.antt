@@ -5,14 +5,16 @@ use mathlib.Core.List.{List, [], _∷_, _++_, map}
 use Prim.Native.Nat.{ℕ, _+_, _*_, _<_, _≤_}
 use native.Mathlib.Omega.{arith}
 use lib.Dec.{leb}
-use lib.ListN.{length, take}
+use lib.ListN.{length, length-map, take}
 use lib.Ieee.{Float, binary32, div, lt, neg}
 use borrow.Author.Tests.{le-ltb, lt-leb, lt-ltb, ne-eqb}
 use Rattle.floats.specs.Floats.{zero32, one32}
 use Rattle.points.specs.declared.Point3.{Point3}
 use Rattle.mix.specs.declared.Share.{Share}
 use Rattle.interpolate.specs.declared.Neighbors as port
-use Rattle.interpolate.specs.Blend.{close32, tiny32, distanceOf, known, allKnown, neighborsOf, pairOf, pointsOf, totalFrom, totalOf, part, Filter, pick, extractOf, blendOf, weighedOf, interpolateOf, refusedOf}
+use Rattle.interpolate.specs.Blend.{close32, tiny32, distanceOf, known, allKnown, neighborsOf, pairOf, pointsOf, totalFrom, totalOf, part, Filter, filterOf, blendDelay, pick, extractOf, blendOf, weighedOf, interpolateOf, refusedOf}
+use Rattle.delays.specs.declared.Outcome.the-variants.{Blended}
+use Rattle.delays.specs.Delays.{secondsOf}
 use Rattle.weights.specs.Weights.{Measured}
 use Rattle.weights.proofs.Distances.{distance-nonneg}
 use Rattle.weights.proofs.Weights.{weight-nonneg}
@@ -24,9 +26,10 @@ use Rattle.source.specs.Interpolate.{InterpolatedFilter, Weighted, distance, «
 use Rattle.source.specs.Reader as reader
 use Rattle.source.specs.Reader.{Sofar, filledOr}
 use Rattle.source_laws.specs.Drawn.{hrtfOf, entered, enteredAll, heard}
+use Rattle.source_laws.specs.Way.{Way, exactly, blending, wayBy, wayOf, madeBy, told}
 use Rattle.source_laws.proofs.Built.{inside}
 use Rattle.source_laws.proofs.Steps.{InSet}
-use Rattle.source_laws.proofs.Points.{listed, dist-here, pair-same, AllIn, added-in, minus-zero, sum-same}
+use Rattle.source_laws.proofs.Points.{shared, listed, dist-here, pair-same, AllIn, added-in, minus-zero, sum-same}
 use Rattle.source_laws.proofs.Blend.{extract-same, blend-same}
 
 -- each of the six is absent or one of the m measurements
@@ -154,3 +157,62 @@ module _ (m r n : ℕ) (xs resp delays : List Float) (rate : Float) (small : m �
         ∙ either (lt (d k) close32) («extract_filter» set k n r) (blended set (Some s) k (d k) q) (plain k) (weighed (enteredAll s))
         (extract-same m r n xs resp delays rate small long two taps sofar is out k hk) blended-same
         ∙ ap heard (sym (port-opens near en))
+
+    -- ---- the way that the source goes
+
+    abbrev wayHere : Float → Way
+    wayHere x = cond (lt x close32) exactly (wayBy set (Some s) k x q)
+
+    way-here : (table : List Neighbors) → get table k ≡ Some s → wayOf set table k q ≡ wayHere (d k)
+    unfolding wayOf
+    way-here table eg =
+        let x = distance (triplet sp (k * 3)) q in
+        ap (λ (o : Option Neighbors). cond (lt x close32) exactly (wayBy set o k x q)) eg ∙ ap wayHere (dist-here xs m small long q k hk)
+
+    -- IT GOES THAT WAY
+    pub way-taken : (table : List Neighbors) → get table k ≡ Some s → interpolate set table k q ≡ madeBy set k (wayOf set table k q)
+    way-taken table eg = source-opens table eg ∙ past-is ∙ ap (madeBy set k) (sym (way-here table eg))
+      where
+        near-or : (g h : Bool) → cond g («extract_filter» set k n r) (cond h («extract_filter» set k n r) (Some (addPoints set («weight_sum» all) (silent n) all)))
+            ≡ madeBy set k (cond g exactly (cond h exactly (blending all)))
+        near-or true h = unfold madeBy in refl
+        near-or false true = unfold madeBy in refl
+        near-or false false = unfold madeBy in refl
+
+        past-is : past (Some s) (d k) ≡ madeBy set k (wayHere (d k))
+        past-is = unfold blended wayBy source.points in near-or (lt (d k) close32) (lt («weight_sum» all) tiny32)
+
+    -- THE PORT'S OUTCOME tells that way, and how many points it blends
+    pub told-same : (table : List Neighbors) (near : List ℕ) → get table k ≡ Some s → neighborsOf near k ≡ enteredAll s
+        → interpolateOf m r n resp delays rate (length (out .left)) (length (out .right)) xs near q k
+        ≡ told (wayOf set table k q) (heard (interpolateOf m r n resp delays rate (length (out .left)) (length (out .right)) xs near q k))
+    told-same table near eg en =
+        port-opens near en ∙ opens ∙ ap (λ (w : Way). told w (heard here)) (sym (way-here table eg)) ∙ ap (λ (f : Filter). told (wayOf set table k q) (heard f)) (sym (port-opens near en))
+      where
+        ps : List Share
+        ps = pointsOf d (enteredAll s) k
+
+        here : Filter
+        here = pick (lt (d k) close32) (plain k) (weighed (enteredAll s))
+
+        blend : Filter
+        blend = mixed (map (part (totalOf ps)) ps)
+
+        plain-told : plain k ≡ told exactly (heard (plain k))
+        plain-told = unfold extractOf in refl
+
+        as-many : length (map (part (totalOf ps)) ps) ≡ length all
+        as-many = length-map ps (part (totalOf ps)) ∙ sym (ap length points-same) ∙ length-map all shared
+
+        blend-told : blend ≡ told (blending all) (heard blend)
+        blend-told = unfold blendOf in ap (λ (c : ℕ). filterOf (Blended (secondsOf (blendDelay delays m r 0 (map (part (totalOf ps)) ps)) rate) (secondsOf (blendDelay delays m r 1 (map (part (totalOf ps)) ps)) rate) c) (blend .left) (blend .right)) as-many
+
+        by-tests : (g h : Bool) → pick g (plain k) (pick h (plain k) blend) ≡ told (cond g exactly (cond h exactly (blending all))) (heard (pick g (plain k) (pick h (plain k) blend)))
+        by-tests true h = unfold pick in plain-told
+        by-tests false true = unfold pick in plain-told
+        by-tests false false = unfold pick in blend-told
+
+        opens : here ≡ told (wayHere (d k)) (heard here)
+        opens = unfold weighedOf wayBy source.points in
+            by-tests (lt (d k) close32) (lt (totalOf ps) tiny32)
+            ∙ ap (λ (t : Float). told (cond (lt (d k) close32) exactly (cond (lt t tiny32) exactly (blending all))) (heard here)) (sym total-same)

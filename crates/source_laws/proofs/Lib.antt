@@ -1,10 +1,11 @@
+pub mod Turns
 pub mod Shapes
 pub mod Search
 pub mod Insert
-pub mod Linked
 pub mod Built
 pub mod Find
 pub mod Bare
+pub mod Linked
 pub mod Caps
 pub mod Steps
 pub mod Table
@@ -15,4 +16,3 @@ pub mod Blend
 pub mod Interpolate
 pub mod Rows
 pub mod Same
-pub mod Calls

@@ -1,148 +1,164 @@
--- The links of a loaded set draw the tree that inserts in place order grow, each place once. Assumes nothing.
+-- A loaded set is the bare tree filled in place order (lookup_laws), which is the source's (proofs/Bare.antt): its links draw the source's tree, and both find
+-- the same number. Assumes nothing.
 use mathlib.Core.Path.{_≡_, refl, sym, ap, _∙_, subst}
-use mathlib.Core.List.{List, [], _∷_, _++_}
-use Prim.Native.Nat.{ℕ, zero, suc, _+_, _-_, _<_, _≤_}
+use mathlib.Core.List.{List}
+use Prim.Native.Nat.{ℕ, zero, suc, _+_, _<_}
 use native.Mathlib.Omega.{arith}
-use lib.ListN.{length, getD, set, length-set, List·getD-append}
-use lib.Seq.{getD-at, getD-set-same, getD-set-other}
+use lib.ListN.{length, replicate, length-replicate}
 use lib.Ieee.{Float}
+use Rattle.lists.specs.Over.{over, upto}
+use Rattle.lists.proofs.Laws.{length-over, length-upto}
+use Rattle.points.specs.declared.Point3.{Point3}
 use Rattle.points.specs.Points.{pointAt}
-use Rattle.kdtree.specs.declared.Slot.{Slot}
-use Rattle.kdtree.specs.declared.Slot.the-variants.{Left, Right, None}
-use Rattle.kdtree.specs.Tree.{Tree, gone, node, subtree}
-use Rattle.kdtree.specs.Insert.{slotIn}
-use Rattle.kdtree.specs.Unpruned.{size}
-use Rattle.kdtree.proofs.Nodes.{OwnerBelow}
-use Rattle.walks.proofs.Pruned.{Clean}
-use Rattle.walks.proofs.Rep.{Distinct, graft, graft-clean, graft-size, graft-distinct, RepAt, rep-at, New, graft-root}
-use Rattle.walks.proofs.Filled.{root-below}
-use Rattle.lookup.specs.Build.{Links, ownedBy, slotAt, ownedAt, withLeaf, linked}
-use Rattle.lookup.proofs.Links.{same-tree, linked-left, linked-right, owner}
+use Rattle.kdtree.specs.declared.Named.the-variants.{Number}
+use Rattle.kdtree.specs.declared.Searched.the-variants.{Found}
+use Rattle.kdtree.specs.Geometry.{boxAt}
+use Rattle.kdtree.specs.Tree.{subtree}
+use Rattle.kdtree.specs.Insert.{listsOf}
+use Rattle.kdtree.specs.Nearest.{placeOf}
+use Rattle.kdtree.proofs.Whole as whole
+use Rattle.walks.specs.Demand3.{Bare, RoomFor, treeIn}
+use Rattle.walks.proofs.Rep.{Mem, rep-at}
+use Rattle.walks.proofs.Filled.{Filled, root-below}
+use Rattle.lookup.specs.Build.{Links, linked, boxOf, lookupOf}
+use Rattle.lookup.specs.Lookup.{clampedBy, locatedAs, locateOf}
+use Rattle.lookup.specs.declared.Located.the-variants.{At}
+use Rattle.lookup.proofs.Links.{linked-left, linked-right}
+use Rattle.lookup_laws.specs.Loaded.{placed, placedFrom, Room, filledWith}
+use Rattle.lookup_laws.proofs.Loaded as filled
+use Rattle.lookup_laws.proofs.Loaded.{itself, number-at}
+use Rattle.source.specs.Rust.{Option, None, Some}
+use Rattle.source.specs.Kdtree.{KdTree, newTree, insert, nearest}
+use Rattle.source.specs.Lookup.{measured, find}
+use Rattle.source_laws.specs.Drawn.{boxed}
+use Rattle.source_laws.specs.Bare.{inserted, named, numberAt, SameTree}
+use Rattle.source_laws.proofs.Insert.{boxed-same}
+use Rattle.source_laws.proofs.Built.{measuredTo}
+use Rattle.source_laws.proofs.Find.{clamp-same}
+use Rattle.source_laws.proofs.Bare.{bare}
 
--- the tree of the places 0 to n
-unfoldable pub grownTo : List Float → ℕ → Tree
-grownTo xs zero = node 0 (pointAt xs 0) gone gone
-grownTo xs (suc n) = graft (suc n) (pointAt xs (suc n)) (grownTo xs n) 0
-
--- ---- the links of one place more
-
-left-right : (s i : ℕ) {A : Type 0} → Left s ≡ Right i → A
-left-right s i e = let z : _≡_ {A = ℕ} 0 1 = cc in absurd (omega arith)
-
-left-left : (s i : ℕ) → Left s ≡ Left i → i ≡ s
-left-left s i e = cc
-
-right-right : (s i : ℕ) → Right s ≡ Right i → i ≡ s
-right-right s i e = cc
-
-none-left : (i : ℕ) {A : Type 0} → None ≡ Left i → A
-none-left i e = let z : _≡_ {A = ℕ} 0 1 = cc in absurd (omega arith)
-
-none-right : (i : ℕ) {A : Type 0} → None ≡ Right i → A
-none-right i e = let z : _≡_ {A = ℕ} 0 1 = cc in absurd (omega arith)
-
-module _ (l : List ℕ) (n : ℕ) (e : length l ≡ n) where
-  kept : (i : ℕ) → i < n → getD (l ++ (65535 ∷ [])) i 0 ≡ getD l i 0
-  kept i h = List·getD-append l (65535 ∷ []) 0 i (omega arith)
-
-  last : getD (l ++ (65535 ∷ [])) n 0 ≡ 65535
-  last = getD-at l 65535 [] 0 n e
-
-  module _ (o : ℕ) (h : o < n) where
-    set-long : length (set l o n) ≡ n
-    set-long = length-set l o n ∙ e
-
-    set-kept : (i : ℕ) → i < n → (i ≡ o → ⊥) → getD (set l o n ++ (65535 ∷ [])) i 0 ≡ getD l i 0
-    set-kept i k f = List·getD-append (set l o n) (65535 ∷ []) 0 i (let z = set-long in omega arith) ∙ getD-set-other l o i n 0 f
-
-    set-own : getD (set l o n ++ (65535 ∷ [])) o 0 ≡ n
-    set-own = List·getD-append (set l o n) (65535 ∷ []) 0 o (let z = set-long in omega arith) ∙ getD-set-same l o n 0 (omega arith)
-
-    set-last : getD (set l o n ++ (65535 ∷ [])) n 0 ≡ 65535
-    set-last = getD-at (set l o n) 65535 [] 0 n set-long
-
-module _ (xs : List Float) (n : ℕ) (a : Links) (el : length (a .left) ≡ n) (er : length (a .right) ≡ n) where
-  abbrev after : Slot → Links
-  after s = withLeaf (ownedBy s n a)
-
-  new-by : (s : Slot) → OwnerBelow n s → New (a .left) (a .right) xs n (pointAt xs n) (after s .left) (after s .right) xs s
-  unfolding ownedBy
-  new-by (Left o) h = record {
-    other = λ i k f. (set-kept (a .left) n el o h i k f, kept (a .right) n er i k);
-    at-left = λ i e. (
-      subst (λ (j : ℕ). getD (after (Left o) .left) j 0 ≡ n) (sym (left-left o i e)) (set-own (a .left) n el o h),
-      kept (a .right) n er i (let z = left-left o i e in omega arith),
-    );
-    at-right = λ i e. left-right o i e;
-    new-left = set-last (a .left) n el o h;
-    new-right = last (a .right) n er;
-    points = λ i k. refl;
-    new-point = refl;
-  }
-  new-by (Right o) h = record {
-    other = λ i k f. (kept (a .left) n el i k, set-kept (a .right) n er o h i k f);
-    at-left = λ i e. left-right i o (sym e);
-    at-right = λ i e. (
-      kept (a .left) n el i (let z = right-right o i e in omega arith),
-      subst (λ (j : ℕ). getD (after (Right o) .right) j 0 ≡ n) (sym (right-right o i e)) (set-own (a .right) n er o h),
-    );
-    new-left = last (a .left) n el;
-    new-right = set-last (a .right) n er o h;
-    points = λ i k. refl;
-    new-point = refl;
-  }
-  new-by None h = record {
-    other = λ i k f. (kept (a .left) n el i k, kept (a .right) n er i k);
-    at-left = λ i e. none-left i e;
-    at-right = λ i e. none-right i e;
-    new-left = last (a .left) n el;
-    new-right = last (a .right) n er;
-    points = λ i k. refl;
-    new-point = refl;
-  }
-
--- ---- the drawn tree
-
-pub record Draws (xs : List Float) (count : ℕ) (a : Links) (t : Tree) : Type 0 where
-  pub rep : RepAt (a .left) (a .right) xs count t 0
-  pub distinct : Distinct t
-  pub clean : Clean t
-  pub whole : size t ≡ count
-
-draws-first : (xs : List Float) → Draws xs 1 (linked xs 1) (grownTo xs 0)
-unfolding linked ownedAt ownedBy subtree slotIn grownTo size
-draws-first xs = record { rep = (refl, (omega arith, refl), (refl, refl)); distinct = ((λ i m k. m), (tt, tt)); clean = (tt, tt); whole = refl }
-
-draws-more : (xs : List Float) (n : ℕ) → suc (suc n) ≤ 16384 → Draws xs (suc n) (linked xs (suc n)) (grownTo xs n) → Draws xs (suc (suc n)) (linked xs (suc (suc n))) (grownTo xs (suc n))
-unfolding linked ownedAt grownTo
-draws-more xs n h D =
-    let c = suc n in
-    let p = pointAt xs c in
-    let a = linked xs c in
-    let t = grownTo xs n in
-    let s = slotAt xs c a in
-    let e : subtree (a .left) (a .right) xs c c 0 ≡ t = rep-at (a .left) (a .right) xs c (omega arith) t 0 c (omega arith) (D .rep) in
-    let es : s ≡ slotIn p t 0 = ap (λ (z : Tree). slotIn p z 0) e in
-    let N = new-by xs c a (linked-left xs c) (linked-right xs c) s (owner xs c a) in
-    record {
-      rep = graft-root (a .left) (a .right) xs c p (withLeaf (ownedBy s c a) .left) (withLeaf (ownedBy s c a) .right) xs t 0 0 (D .rep) (D .distinct)
-          (subst (New (a .left) (a .right) xs c p (withLeaf (ownedBy s c a) .left) (withLeaf (ownedBy s c a) .right) xs) es N);
-      distinct = graft-distinct c p t 0 (λ k. let z = root-below (a .left) (a .right) xs c t 0 c (D .rep) k in omega arith) (D .distinct);
-      clean = graft-clean c p t 0 (D .clean);
-      whole = graft-size c p t 0 (D .clean) ∙ ap suc (D .whole);
-    }
-
--- THE LINKS OF THE PLACES 0 TO n DRAW THAT TREE
-pub draws : (xs : List Float) (n : ℕ) → suc n ≤ 16384 → Draws xs (suc n) (linked xs (suc n)) (grownTo xs n)
-draws xs zero h = draws-first xs
-draws xs (suc n) h = draws-more xs n h (draws xs n (omega arith))
-
--- lists that hold these links below the count, whatever behind them
+-- lists that hold the links of a set of n + 1 measurements, written over what they were
 pub record Holds (xs : List Float) (n : ℕ) (left right : List ℕ) : Type 0 where
-  pub left-same : (i : ℕ) → i < suc n → getD left i 0 ≡ getD (linked xs (suc n) .left) i 0
-  pub right-same : (i : ℕ) → i < suc n → getD right i 0 ≡ getD (linked xs (suc n) .right) i 0
+  pub before : Links
+  pub room : Room xs (suc n) before
+  pub left-is : left ≡ over (linked xs (suc n) .left) (before .left)
+  pub right-is : right ≡ over (linked xs (suc n) .right) (before .right)
 
-pub drawn-is : (xs : List Float) (n : ℕ) (left right : List ℕ) → suc n ≤ 16384 → Holds xs n left right → subtree left right xs (suc n) (suc n) 0 ≡ grownTo xs n
-drawn-is xs n left right h k =
-    same-tree left right (linked xs (suc n) .left) (linked xs (suc n) .right) xs (suc n) (k .left-same) (k .right-same) (suc n) 0 (omega arith)
-    ∙ rep-at (linked xs (suc n) .left) (linked xs (suc n) .right) xs (suc n) h (grownTo xs n) 0 (suc n) (omega arith) (draws xs n h .rep)
+-- ---- the source's inserts are those in place order
+
+long-placed : (xs : List Float) (k i : ℕ) → length (placedFrom xs k i) ≡ k
+unfolding placedFrom
+long-placed xs zero i = refl
+long-placed xs (suc k) i = ap suc (long-placed xs k (suc i))
+
+inserts : (xs : List Float) (k i : ℕ) → inserted (placedFrom xs k i) (measuredTo xs i .kdtree) ≡ measuredTo xs (i + k) .kdtree
+unfolding inserted placedFrom
+inserts xs zero i = let e : i ≡ i + 0 = omega arith in ap (λ (j : ℕ). measuredTo xs j .kdtree) e
+inserts xs (suc k) i =
+    let e : suc i + k ≡ i + suc k = omega arith in
+    one ∙ inserts xs k (suc i) ∙ ap (λ (j : ℕ). measuredTo xs j .kdtree) e
+  where
+    one : inserted (placedFrom xs k (suc i)) (insert (measuredTo xs i .kdtree) (pointAt xs i) i) ≡ inserted (placedFrom xs k (suc i)) (measuredTo xs (suc i) .kdtree)
+    one = unfold measuredTo measured in refl
+
+-- ---- the set
+
+-- both name the same number, which is one of the set's
+pub record Finds (xs : List Float) (n : ℕ) (left right : List ℕ) (q : Point3) : Type 0 where
+  pub number : ℕ
+  pub below : number < suc n
+  pub in-port : locateOf (lookupOf xs (suc n)) (suc n) xs left right q ≡ At number
+  pub in-source : find (measuredTo xs (suc n)) q ≡ Some number
+
+module _ (xs : List Float) (n : ℕ) (left right : List ℕ) (H : Holds xs n left right) where
+  abbrev numbers : List ℕ
+  numbers = over (upto itself (suc n)) (replicate (suc n) 0)
+
+  -- the bare tree, filled
+  abbrev set : Bare
+  set = record { lists = listsOf xs left right numbers; count = suc n; bounds = boxOf xs (suc n) }
+
+  filled-is : filledWith xs (suc n) (H .before) ≡ set
+  filled-is =
+      filled.loaded xs (suc n) (H .before) (H .room)
+      ∙ ap (λ (l : List ℕ). record { lists = listsOf xs l (over (linked xs (suc n) .right) (H .before .right)) numbers; count = suc n; bounds = boxOf xs (suc n) }) (sym (H .left-is))
+      ∙ ap (λ (l : List ℕ). record { lists = listsOf xs left l numbers; count = suc n; bounds = boxOf xs (suc n) }) (sym (H .right-is))
+
+  is-source : SameTree (placedFrom xs (suc n) 0) set
+  is-source = subst (SameTree (placedFrom xs (suc n) 0)) filled-is (unfold filledWith in
+      bare (listsOf xs (H .before .left) (H .before .right) (replicate (suc n) 0)) (boxAt (pointAt xs 0)) (placedFrom xs (suc n) 0) room)
+    where
+      room : RoomFor (listsOf xs (H .before .left) (H .before .right) (replicate (suc n) 0)) (length (placedFrom xs (suc n) 0))
+      room = rw (long-placed xs (suc n) 0)
+          (record { most = H .room .most; positions = H .room .positions; left = H .room .left; right = H .room .right; numbers = let z = length-replicate (suc n) zero in omega arith })
+
+  built-by : inserted (placedFrom xs (suc n) 0) newTree ≡ measuredTo xs (suc n) .kdtree
+  built-by = start ∙ inserts xs (suc n) 0 ∙ (let e : 0 + suc n ≡ suc n = omega arith in ap (λ (k : ℕ). measuredTo xs k .kdtree) e)
+    where
+      start : inserted (placedFrom xs (suc n) 0) newTree ≡ inserted (placedFrom xs (suc n) 0) (measuredTo xs 0 .kdtree)
+      start = unfold measuredTo in refl
+
+  -- each place of the tree is one of the set's, and its number is the place
+  drawn : Filled (placed xs 0) (placedFrom xs n 1) set
+  drawn =
+      subst (λ (l : List ℕ). Filled (placed xs 0) (placedFrom xs n 1) (record { lists = listsOf xs left l numbers; count = suc n; bounds = boxOf xs (suc n) })) (sym (H .right-is))
+      (subst (λ (l : List ℕ). Filled (placed xs 0) (placedFrom xs n 1) (record { lists = listsOf xs l (over (linked xs (suc n) .right) (H .before .right)) numbers; count = suc n; bounds = boxOf xs (suc n) })) (sym (H .left-is))
+      (unfold boxOf filled.rect in filled.drawn xs (suc n) (H .before) (H .room) n (omega arith)))
+
+  below : (i : ℕ) → Mem i (treeIn set) → i < suc n
+  below i k =
+      let e = rep-at left right xs (suc n) (drawn .small) (drawn .tree) 0 (suc n) (omega arith) (drawn .rep) in
+      root-below left right xs (suc n) (drawn .tree) 0 i (drawn .rep) (subst (Mem i) e k)
+
+  -- THE LINKS DRAW THE SOURCE'S TREE
+  pub tree-same : measuredTo xs (suc n) .kdtree .root ≡ boxed (λ i. i) (subtree left right xs (suc n) (suc n) 0) 0
+  tree-same =
+      ap (λ (k : KdTree). k .root) (sym built-by) ∙ is-source .tree
+      ∙ boxed-same (numberAt set) (λ i. i) (treeIn set) 0 (λ i k. number-at (suc n) i (replicate (suc n) 0) (below i k))
+
+  -- ---- find
+
+  readable : whole.Readable (listsOf xs left right numbers) (suc n)
+  readable =
+      let r = H .room in
+      let a = length-over (linked xs (suc n) .left) (H .before .left) (let z = linked-left xs (suc n) in let y = r .left in omega arith) in
+      let b = length-over (linked xs (suc n) .right) (H .before .right) (let z = linked-right xs (suc n) in let y = r .right in omega arith) in
+      let k : length (replicate (suc n) zero) ≡ suc n = length-replicate (suc n) zero in
+      let c = length-over (upto itself (suc n)) (replicate (suc n) zero) (let z = length-upto itself (suc n) in omega arith) in
+      let u = ap length (H .left-is) in
+      let v = ap length (H .right-is) in
+      let x = r .left in
+      let y = r .right in
+      record { most = r .most; positions = r .positions; left = omega arith; right = omega arith; numbers = omega arith }
+
+  only-some : (o : Option ℕ) (k : ℕ) → named o ≡ Number k → o ≡ Some k
+  only-some None k e = let z : _≡_ {A = ℕ} 0 1 = cc in absurd (omega arith)
+  only-some (Some j) k e = let z : j ≡ k = cc in ap (λ (i : ℕ). Some i) z
+
+  module _ (q : Point3) where
+    abbrev p : Point3
+    p = clampedBy (lookupOf xs (suc n)) q
+
+    abbrev P : filled.Placed xs (suc n) (H .before) (H .room) (boxOf xs (suc n)) p
+    P = filled.found xs (suc n) (H .before) (H .room) (boxOf xs (suc n)) p
+
+    place-is : placeOf xs left right (suc n) (boxOf xs (suc n)) p ≡ Found (P .best)
+    place-is =
+        ap (λ (l : List ℕ). placeOf xs l right (suc n) (boxOf xs (suc n)) p) (H .left-is)
+        ∙ ap (λ (l : List ℕ). placeOf xs (over (linked xs (suc n) .left) (H .before .left)) l (suc n) (boxOf xs (suc n)) p) (H .right-is) ∙ P .is
+
+    source-names : nearest (measuredTo xs (suc n) .kdtree) p ≡ Some (P .best .place)
+    source-names = only-some (nearest (measuredTo xs (suc n) .kdtree) p) (P .best .place)
+        (ap (λ (k : KdTree). named (nearest k p)) (sym built-by) ∙ sym (is-source .names p)
+        ∙ sym (whole.found-number (listsOf xs left right numbers) (suc n) (boxOf xs (suc n)) p readable (λ e. omega arith) (placeOf xs left right (suc n) (boxOf xs (suc n)) p) refl (P .best) place-is)
+        ∙ ap (λ (k : ℕ). Number k) (number-at (suc n) (P .best .place) (replicate (suc n) 0) (P .below)))
+
+    -- FIND ANSWERS WHAT THE SOURCE'S FINDS
+    pub finds : Finds xs n left right q
+    unfolding find locateOf lookupOf locatedAs
+    finds = record {
+      number = P .best .place;
+      below = P .below;
+      in-port = ap locatedAs place-is;
+      in-source = ap (nearest (measuredTo xs (suc n) .kdtree)) (clamp-same xs (suc n) q) ∙ source-names;
+    }

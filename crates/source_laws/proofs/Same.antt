@@ -1,43 +1,37 @@
 -- THE THEOREM: what a loaded set answers is what the source answers (specs/Same.antt). Assumes nothing.
 use mathlib.Core.Path.{_≡_, refl, sym, ap, _∙_}
-use mathlib.Core.List.{List}
+use mathlib.Core.List.{List, []}
 use Prim.Native.Nat.{ℕ, zero, suc, _<_}
 use native.Mathlib.Omega.{arith}
-use lib.ListN.{length, getD, drop, List·getD-append}
 use lib.Ieee.{Float}
-use Rattle.lists.specs.Over.{over}
+use Rattle.floats.specs.Floats.{zero32}
 use Rattle.points.specs.declared.Point3.{Point3}
 use Rattle.points.specs.Points.{Finite}
-use Rattle.kdtree.specs.Tree.{Tree}
 use Rattle.interpolate.specs.Blend.{neighborsOf}
-use Rattle.lookup.specs.Build.{linked, buildOf, boxOf, lookupOf}
+use Rattle.lookup.specs.Build.{buildOf, boxOf, lookupOf}
 use Rattle.lookup.specs.declared.Located.{Located}
 use Rattle.lookup.specs.declared.Located.the-variants.{At}
 use Rattle.lookup.specs.Lookup.{clampedBy, locateOf, unless, findOf, findMutOf, movedAs, movedBy, pointIn, putPoint}
 use Rattle.limits.specs.declared.Verdict.{Verdict}
 use Rattle.limits.specs.declared.Verdict.the-variants.{Fine}
 use Rattle.limits.specs.Refusals.{verdictOf, findLines}
-use Rattle.lookup.proofs.Links.{linked-left, linked-right}
 use Rattle.neighbors.specs.Neighbors.{Tabled}
 use Rattle.source.specs.Rust.{Option, Some}
 use Rattle.source.specs.Lookup.{«find_mut», find, «normalize_radius»}
 use Rattle.source.specs.Neighbors.{Neighbors, newNeighborhood, get}
-use Rattle.source.specs.Interpolate.{«extract_filter», «get_filter_nointerp»}
+use Rattle.source.specs.Interpolate.{interpolate, «extract_filter», «get_filter_nointerp»}
 use Rattle.source.specs.Reader as reader
 use Rattle.source.specs.Reader.{Sofar, opened, openedBy, filledOr, filterAt, filter, nointerpAt, «filter_nointerp»}
-use Rattle.source_laws.specs.Drawn.{boxed, ported, enteredAll, heard}
+use Rattle.source_laws.specs.Drawn.{ported, enteredAll, heard}
+use Rattle.source_laws.specs.Way.{Way, wayOf, madeBy, told}
 use Rattle.source_laws.specs.Same.{Set, Loaded, hrtf, sizes, lengths, look, blend, plain, SameAsSource}
-use Rattle.source_laws.proofs.Linked.{Holds, drawn-is}
-use Rattle.source_laws.proofs.Built.{measuredTo, root-same, boxBy, bounds-same, box-same, six-same, new-same}
-use Rattle.source_laws.proofs.Find.{Finds, finds, clamp-same}
+use Rattle.source_laws.proofs.Linked.{Holds, Finds, finds, tree-same}
+use Rattle.source_laws.proofs.Built.{measuredTo, boxBy, bounds-same, box-same, six-same, new-same}
+use Rattle.source_laws.proofs.Find.{clamp-same}
 use Rattle.source_laws.proofs.Table.{six, table-same, neighborhood-same}
 use Rattle.source_laws.proofs.Blend.{extract-same}
-use Rattle.source_laws.proofs.Interpolate.{interpolate-same}
+use Rattle.source_laws.proofs.Interpolate.{interpolate-same, way-taken, told-same}
 use Rattle.source_laws.proofs.Rows.{row-same, row-in}
-
-over-same : (l d : List ℕ) (i : ℕ) → i < length l → getD (over l d) i 0 ≡ getD l i 0
-unfolding over
-over-same l d i h = List·getD-append l (drop (length l) d) 0 i h
 
 -- the set with m = suc n measurements
 module _ (n r t : ℕ) (xs : List Float) (left right near : List ℕ) (resp delays : List Float) (angle radius rate : Float)
@@ -48,8 +42,10 @@ module _ (n r t : ℕ) (xs : List Float) (left right near : List ℕ) (resp dela
   holds : Holds xs n left right
   unfolding buildOf
   holds = record {
-    left-same = λ i h. ap (λ (l : List ℕ). getD l i 0) (L .left-links) ∙ over-same (linked xs (suc n) .left) (L .links-before .left) i (let z = linked-left xs (suc n) in omega arith);
-    right-same = λ i h. ap (λ (l : List ℕ). getD l i 0) (L .right-links) ∙ over-same (linked xs (suc n) .right) (L .links-before .right) i (let z = linked-right xs (suc n) in omega arith);
+    before = L .links-before;
+    room = record { some = L .some; most = L .most; positions = L .positions; left = L .left-room; right = L .right-room };
+    left-is = L .left-links;
+    right-is = L .right-links;
   }
 
   abbrev ours : ℕ → Neighbors
@@ -71,7 +67,7 @@ module _ (n r t : ℕ) (xs : List Float) (left right near : List ℕ) (resp dela
   rows k h = neighborhood-same xs n (L .most) left right holds angle radius (L .angle-step) (L .positions) r t resp delays rate k h
 
   found : (q : Point3) → Finds xs n left right q
-  found q = finds xs n (L .most) left right holds q
+  found q = finds xs n left right holds q
 
   moves : (q : Point3) → «find_mut» (measuredTo xs (suc n)) q ≡ record { answer = Some (found q .number); coordinate = clampedBy (look s) q }
   unfolding «find_mut» find
@@ -99,6 +95,26 @@ module _ (n r t : ℕ) (xs : List Float) (left right near : List ℕ) (resp dela
       ∙ interpolate-same (suc n) r t xs resp delays rate (L .most) (L .positions) (L .ears) (L .taps) built refl out q k (found q .below) (record { points = L .finite; query = f })
       (ours k) (row-in xs n (L .most) left right holds angle radius (L .angle-step) k) (built .neighborhood) near (rows k (found q .below)) (entries k (found q .below))
 
+  abbrev way : Point3 → Way
+  way q = wayOf (hrtf s) (built .neighborhood) (found q .number) q
+
+  -- the way does not depend on the filter that is filled
+  abbrev unfilled : reader.Filter
+  unfilled = record { left = []; right = []; ldelay = zero32; rdelay = zero32 }
+
+  goes : (q : Point3) → Finite q → interpolate (hrtf s) (built .neighborhood) (found q .number) q ≡ madeBy (hrtf s) (found q .number) (way q)
+  goes q f =
+      let k = found q .number in
+      way-taken (suc n) r t xs resp delays rate (L .most) (L .positions) (L .ears) (L .taps) built refl unfilled q k (found q .below) (record { points = L .finite; query = f }) (ours k)
+      (row-in xs n (L .most) left right holds angle radius (L .angle-step) k) (built .neighborhood) (rows k (found q .below))
+
+  outcomes : (q : Point3) → Finite q → (out : reader.Filter) → blend s out q (found q .number) ≡ told (way q) (filter built (q .x) (q .y) (q .z) out)
+  outcomes q f out =
+      let k = found q .number in
+      told-same (suc n) r t xs resp delays rate (L .most) (L .positions) (L .ears) (L .taps) built refl out q k (found q .below) (record { points = L .finite; query = f })
+      (ours k) (row-in xs n (L .most) left right holds angle radius (L .angle-step) k) (built .neighborhood) near (rows k (found q .below)) (entries k (found q .below))
+      ∙ ap (told (way q)) (sym (filters q f out))
+
   filters-plain : (q : Point3) (out : reader.Filter) → «filter_nointerp» built (q .x) (q .y) (q .z) out ≡ heard (plain s out (found q .number))
   unfolding «filter_nointerp» nointerpAt «get_filter_nointerp»
   filters-plain q out = ap (nointerpAt built out) (found q .in-source) ∙ plainly (found q .number) (found q .below) out
@@ -115,7 +131,7 @@ module _ (n r t : ℕ) (xs : List Float) (left right near : List ℕ) (resp dela
         sofar = built;
         of-set = refl;
         opens = opens;
-        tree = root-same xs n ∙ ap (λ (z : Tree). boxed (λ i. i) z 0) (sym (drawn-is xs n left right (L .most) holds));
+        tree = tree-same xs n left right holds;
         box = boxBy xs n;
         has-box = bounds-same xs n;
         corners = box-same xs n;
@@ -137,6 +153,9 @@ module _ (n r t : ℕ) (xs : List Float) (left right near : List ℕ) (resp dela
         port-moves = moved;
         source-moves = moves;
         filters = filters;
+        way = way;
+        goes = goes;
+        outcomes = outcomes;
         filters-plain = filters-plain;
         by-number = by-number;
       }

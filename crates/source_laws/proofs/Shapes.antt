@@ -7,7 +7,6 @@ use lib.Ieee.{Float, binary32, sub, lt, le}
 use Rattle.floats.specs.Floats.{zero32}
 use Rattle.points.specs.declared.Point3.{Point3}
 use Rattle.points.specs.Points.{distSq}
-use Rattle.kdtree.specs.declared.BoundingBox.{BoundingBox}
 use Rattle.kdtree.specs.Geometry.{byAxis, coordOf, nextAxis, outside, boxDistSq, boxAt, grown, withMin, withMax, goesLeft, leftFirst}
 use Rattle.source.specs.Rust.{at, put}
 use Rattle.source.specs.Kdtree as source

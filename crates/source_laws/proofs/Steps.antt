@@ -8,30 +8,25 @@ use lib.Ieee.{Float, binary32, add, sub, lt}
 use Rattle.floats.specs.Floats.{absOf}
 use Rattle.points.specs.declared.Point3.{Point3}
 use Rattle.coords.specs.declared.Spherical.{Spherical}
-use Rattle.coords.specs.Coords.{turnOf, alongOf, cartesianOf}
+use Rattle.coords.specs.Coords.{cartesianOf}
 use Rattle.lookup.specs.declared.Lookup.{Lookup}
 use Rattle.lookup.specs.declared.Located.{Located}
 use Rattle.lookup.specs.declared.Located.the-variants.{At}
 use Rattle.lookup.specs.Build.{lookupOf}
 use Rattle.neighbors.specs.Neighbors.{after, tilted, distant, moved, leaves, unlessOwn, going}
-use Rattle.source.specs.Rust.{Option, None, Some, array}
-use Rattle.source.specs.Coords.{«spherical_to_cartesian»}
+use Rattle.source.specs.Rust.{Option, None, Some}
 use Rattle.source.specs.Lookup as looked
 use Rattle.source.specs.Lookup.{find}
 use Rattle.source.specs.Neighbors.{otherThan, stepping}
 use Rattle.source_laws.specs.Drawn.{ported, entered}
-use Rattle.source_laws.proofs.Linked.{Holds}
+use Rattle.source_laws.proofs.Turns.{cartesian-same}
+use Rattle.source_laws.proofs.Linked.{Holds, finds}
 use Rattle.source_laws.proofs.Built.{measuredTo, six-same}
-use Rattle.source_laws.proofs.Find.{finds}
 
 -- absent, or one of the m measurements
 abbrev pub InSet : ℕ → Option ℕ → Type 0
 InSet m None = Unit
 InSet m (Some k) = k < m
-
-cartesian-same : (s : Spherical) → «spherical_to_cartesian» ported (array (s .azimuth) (s .elevation) (s .radius)) ≡ cartesianOf s
-unfolding «spherical_to_cartesian» cartesianOf alongOf turnOf
-cartesian-same s = refl
 
 pick-same : (b : Bool) (r : Located) (o : Option ℕ) → r ≡ At (entered o) → elim b [ true ↦ At 65535 | false ↦ r ] ≡ At (entered (cond b None o))
 pick-same true r o e = unfold entered in refl
@@ -92,7 +87,7 @@ module _ (xs : List Float) (n : ℕ) (small : suc n ≤ 16384) (left right : Lis
   more : (k i : ℕ) → Same k (i + 1) → Same (suc k) i
   unfolding going
   more k i ih =
-      let F = finds xs n small left right h (cartesianOf (there i)) in
+      let F = finds xs n left right h (cartesianOf (there i)) in
       let b = leaves look (step .radius) (there i .radius) in
       let g = going look (suc n) xs left right own from step k (i + 1) in
       let o = searched k (i + 1 + 1) in

@@ -24,7 +24,8 @@ use Rattle.source.specs.Lookup.{triplet}
 use Rattle.source.specs.Neighbors.{Neighbors, defaultNeighbors, «max_steps», stepping, «search_direction», «find_neighbors», pushing, newNeighborhood, get}
 use Rattle.source_laws.specs.Drawn.{ported, hrtfOf, entered, sixth}
 use Rattle.source_laws.proofs.Linked.{Holds}
-use Rattle.source_laws.proofs.Built.{measuredTo, spherical-same, point-here, inside}
+use Rattle.source_laws.proofs.Built.{measuredTo, point-here, inside}
+use Rattle.source_laws.proofs.Turns.{spherical-same}
 use Rattle.source_laws.proofs.Caps.{above-zero, abs-positive, abs-negated, phi-cap, theta-cap, radius-cap}
 use Rattle.source_laws.proofs.Steps.{InSet, steps-same}
 

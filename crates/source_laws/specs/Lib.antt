@@ -1,4 +1,5 @@
 pub mod Drawn
+pub mod Turns
 pub mod Bare
+pub mod Way
 pub mod Same
-pub mod Calls

@@ -1,7 +1,7 @@
 -- DEMAND 2 on one page: what a loaded set answers is what the source answers. Definitions only; the theorem `same` is in proofs/Same.antt.
 -- The source's side is the crate source's, the port's side the definitions that the contracts cite. All is bit for bit; NaN is one value. Where `min` and
 -- `max` meet +0 and -0, Rust leaves the sign open: the transcription keeps the earlier, as document 01 has it, so the statement is about a Rust that does so.
--- The reader's calls, whose checks come first, are in specs/Calls.antt. Not yet in either: what `load` itself copies or converts, and refuses.
+-- That a load leaves such a set, and what the reader's calls, whose checks come first, answer over it, is the crate load_laws's theorem.
 use mathlib.Core.Path.{_≡_}
 use mathlib.Core.List.{List}
 use Prim.Native.Nat.{ℕ, _*_, _≤_, _<_}
@@ -26,10 +26,11 @@ use Rattle.source.specs.Rust.{Some}
 use Rattle.source.specs.Kdtree as source
 use Rattle.source.specs.Lookup.{Hrtf, «normalize_radius», find, «find_mut»}
 use Rattle.source.specs.Neighbors.{Neighbors, get}
-use Rattle.source.specs.Interpolate.{«get_filter_nointerp»}
+use Rattle.source.specs.Interpolate.{interpolate, «get_filter_nointerp»}
 use Rattle.source.specs.Reader as reader
 use Rattle.source.specs.Reader.{Sofar, opened, filledOr, filter, «filter_nointerp»}
 use Rattle.source_laws.specs.Drawn.{boxed, flat, ported, hrtfOf, enteredAll, heard}
+use Rattle.source_laws.specs.Way.{Way, madeBy, told}
 
 -- a set's numbers and lists
 pub record Set : Type 0 where
@@ -56,6 +57,8 @@ pub record Loaded (s : Set) : Type 0 where
   pub finite : (k : ℕ) → k < s .m → Finite (pointAt (s .cartesian) k)
   pub angle-step : angleStepOk (s .angle) ≡ true
   pub links-before : Links
+  pub left-room : s .m ≤ length (links-before .left)
+  pub right-room : s .m ≤ length (links-before .right)
   pub left-links : s .left ≡ buildOf (s .cartesian) (s .m) links-before .links .left
   pub right-links : s .right ≡ buildOf (s .cartesian) (s .m) links-before .links .right
   pub table-before : List ℕ
@@ -116,5 +119,9 @@ pub record SameAsSource (s : Set) : Type 0 where
   pub source-moves : (q : Point3) → «find_mut» (sofar .lookup) q ≡ record { answer = Some (number q); coordinate = clampedBy (look s) q }
   -- the filters: samples of both outputs, and both delays in seconds
   pub filters : (q : Point3) → Finite q → (out : reader.Filter) → filter sofar (q .x) (q .y) (q .z) out ≡ heard (blend s out q (number q))
+  -- exact, or blended of how many points: as the source goes
+  pub way : Point3 → Way
+  pub goes : (q : Point3) → Finite q → interpolate (sofar .hrtf) (sofar .neighborhood) (number q) q ≡ madeBy (sofar .hrtf) (number q) (way q)
+  pub outcomes : (q : Point3) → Finite q → (out : reader.Filter) → blend s out q (number q) ≡ told (way q) (filter sofar (q .x) (q .y) (q .z) out)
   pub filters-plain : (q : Point3) (out : reader.Filter) → «filter_nointerp» sofar (q .x) (q .y) (q .z) out ≡ heard (plain s out (number q))
   pub by-number : (k : ℕ) → k < s .m → (out : reader.Filter) → filledOr sofar out («get_filter_nointerp» (sofar .hrtf) k) ≡ heard (plain s out k)

@@ -4,16 +4,20 @@ use mathlib.Core.Path.{_≡_, ap, _∙_}
 use mathlib.Core.List.{List}
 use native.Mathlib.Omega.{arith}
 use lib.ListN.{length}
+use lib.Ieee.{Float}
 use denote.Ref.{now}
 use Rattle.lists.specs.Over.{over}
 use Rattle.interpolate.specs.Blend.{Filter}
 use Rattle.loads.specs.Load.{workOf}
 use Rattle.blocks.specs.Blocks.{blockOf}
 use Rattle.blocks.proofs.Rooms.{block-room}
-use Rattle.answers.specs.Answers.{filteredOf, blockFor, answerOf}
+use Rattle.answers.specs.Answers.{filteredOf, blockFor, answerOf, answeredAs, answeredOf}
 use borrow.Author.Needs.{needs}
 use Rattle.answers.proofs.answer.Statement.{statement}
 use Rattle.answers.proofs.answer.Tie as tie
+
+same : {k k′ : ℕ} {o o′ : List ℕ} {l l′ r r′ : List Float} → k ≡ k′ → o ≡ o′ → l ≡ l′ → r ≡ r′ → answeredAs k o l r ≡ answeredAs k′ o′ l′ r′
+same a b c d = cc
 
 nearest-requires : tie.Need-nearest-requires
 nearest-requires c κs = search needs
@@ -39,7 +43,7 @@ same-length-3 : tie.Need-same-length-3
 same-length-3 c = search needs
 
 returns : tie.Need-returns
-unfolding answerOf
+unfolding answerOf answeredOf
 returns c =
     let s = c .before .before .before .before .before .before .before .before .before .before .before .before .before .before .before .before .before .before .before .before .before .before .before in
     let a = s .args in
@@ -49,7 +53,7 @@ returns c =
     let d = workOf (now (a .left)) (now (a .right)) (now (a .neighbours)) (now (a .cartesian)) in
     let e : blockOf (f .result) (k .result) (f .last .1 .1 .1 .1 .1 .1 .1 .1 .1 .0) (f .last .1 .1 .1 .1 .1 .1 .1 .1 .1 .1 .0) ≡ answerOf (a .s) (a .look) d (now (a .responses)) (now (a .delays)) (a .q) =
     ap (λ (t : Filter). blockFor t (k .result)) (f .ensures) ∙ ap (λ (n : ℕ). blockFor (filteredOf (a .s) (a .look) d (now (a .responses)) (now (a .delays)) (a .q)) n) (k .ensures) in
-    (b .ensures .0 ∙ ap length e, b .ensures .1 ∙ ap (λ (t : List ℕ). over t (now (a .out))) e)
+    same (b .ensures .0 ∙ ap length e) (b .ensures .1 ∙ ap (λ (t : List ℕ). over t (now (a .out))) e) (ap (λ (t : Filter). t .left) (f .ensures)) (ap (λ (t : Filter). t .right) (f .ensures))
 
 pub answer-spec : {M : Type 1} → statement M
 answer-spec =

@@ -1,0 +1,72 @@
+//! The bare tree.
+use crate::ffi::{self, BoundingBox, Coordinates};
+use crate::refusal::{said, Refusal};
+
+const ABSENT: u16 = 65535;
+
+/// Points with a number each, of any f32, and the nearest of them: up to 16384.
+///
+/// ```
+/// use sofa::Tree;
+///
+/// let mut tree = Tree::new();
+/// assert_eq!(tree.nearest([0.0, 0.0, 0.0])?, None);
+/// tree.insert([10.0, 0.0, 0.0], 7)?;
+/// tree.insert([1.0, 0.0, 0.0], 8)?;
+/// assert_eq!(tree.nearest([0.0, 0.0, 0.0])?, Some(8));
+/// # Ok::<(), sofa::Refusal>(())
+/// ```
+#[derive(Clone, Debug, Default, PartialEq)]
+pub struct Tree {
+    bounds: BoundingBox,
+    positions: Vec<f32>,
+    left: Vec<u16>,
+    right: Vec<u16>,
+    numbers: Vec<u16>,
+}
+
+impl Tree {
+    /// An empty tree.
+    pub fn new() -> Tree {
+        Tree::default()
+    }
+
+    /// How many points are in.
+    pub fn len(&self) -> usize {
+        self.numbers.len()
+    }
+
+    /// Whether none is in.
+    pub fn is_empty(&self) -> bool {
+        self.numbers.is_empty()
+    }
+
+    /// Takes a point in, with its number. Refused 3 where 16384 are in; the tree is as it was then.
+    pub fn insert(&mut self, point: Coordinates, number: u16) -> Result<(), Refusal> {
+        let count = self.len();
+        self.room_for(count + 1);
+        let told = ffi::tree_insert(count, self.bounds, &mut self.positions, &mut self.left, &mut self.right, &mut self.numbers, point, number);
+        let done = said(told.reason, told.place);
+        match done {
+            Ok(()) => self.bounds = told.bounds,
+            Err(_) => self.room_for(count),
+        }
+        done
+    }
+
+    fn room_for(&mut self, count: usize) {
+        self.positions.resize(3 * count, 0.0);
+        self.left.resize(count, ABSENT);
+        self.right.resize(count, ABSENT);
+        self.numbers.resize(count, ABSENT);
+    }
+
+    /// The number of the nearest point, by document 01's rule for ties; `None` where the tree is empty. A NaN coordinate gives the first
+    /// point's number. A tree that was filled by [`Tree::insert`] refuses nothing.
+    pub fn nearest(&self, query: Coordinates) -> Result<Option<u16>, Refusal> {
+        let lists = ffi::Tree { positions: &self.positions, left: &self.left, right: &self.right };
+        let found = ffi::tree_nearest(self.len(), self.bounds, lists, &self.numbers, query);
+        said(found.reason, found.place)?;
+        Ok(if self.is_empty() { None } else { Some(found.number) })
+    }
+}

@@ -1,0 +1,165 @@
+//! Known answers: a load, a blended, an exact and a refused query, and the calls by number.
+use sofa::{Delays, Filtered, Kind, Neighbors, Reason, Seconds, Set, Sizes, Tree};
+use std::sync::Arc;
+
+const SIZES: Sizes = Sizes { m: 2, c: 3, r: 2, n: 1 };
+const POSITIONS: [f32; 6] = [1.0, 0.0, 0.0, -1.0, 0.0, 0.0];
+const RESPONSES: [f32; 4] = [0.5, 0.25, 1.0, 0.0];
+const DELAYS: [f32; 2] = [375.0, 0.0];
+
+fn two() -> Set<&'static [f32]> {
+    Set::load(Kind::CARTESIAN, SIZES, &POSITIONS, &RESPONSES[..], &DELAYS[..], 0.5, 0.01, 48000.0).unwrap()
+}
+
+fn both(seconds: f32) -> Delays {
+    Delays { left: Seconds(seconds), right: Seconds(seconds) }
+}
+
+/// The worked case of document 01's query program.
+#[test]
+fn a_blended_query() {
+    let (mut left, mut right) = ([9.0; 1], [9.0; 1]);
+    let told = two().filter([2.0, 0.0, 0.0], &mut left, &mut right);
+    assert_eq!(told, Ok(Filtered::Blended(both(0.0078125), 1)));
+    assert_eq!((left, right), ([0.5], [0.25]));
+}
+
+#[test]
+fn an_exact_query() {
+    let (mut left, mut right) = ([9.0; 3], [9.0; 0]);
+    let told = two().filter([-1.0, 0.0, 0.0], &mut left, &mut right);
+    assert_eq!(told, Ok(Filtered::Exact(both(0.0))));
+    assert_eq!(left, [1.0, 0.0, 0.0]);
+}
+
+#[test]
+fn a_refused_query() {
+    let (mut left, mut right) = ([9.0; 2], [9.0; 1]);
+    let refusal = two().filter([0.0, f32::NAN, 0.0], &mut left, &mut right).unwrap_err();
+    assert_eq!((refusal.reason, refusal.place), (Reason::NotFinite, 1));
+    assert_eq!((left.map(f32::to_bits), right.map(f32::to_bits)), ([0; 2], [0; 1]));
+}
+
+/// Three points a quarter of a turn apart: the query between them is a blend of two, half and half.
+#[test]
+fn a_blend_of_two() {
+    let sizes = Sizes { m: 3, c: 3, r: 2, n: 2 };
+    let positions = [0.0, 0.0, 1.0, 45.0, 0.0, 1.0, 90.0, 0.0, 1.0];
+    let responses = vec![0.0, 1.0, 2.0, 3.0, 8.0, 9.0, 10.0, 11.0, 0.0, 0.0, 0.0, 0.0];
+    let set = Set::load(Kind::SPHERICAL, sizes, &positions, responses, vec![], 45.0, 1.0, 48000.0).unwrap();
+    let mut middle = [22.5, 0.0, 1.0];
+    sofa::to_cartesian(&mut middle).unwrap();
+    let (mut left, mut right) = ([9.0; 2], [9.0; 2]);
+    let told = set.filter(middle, &mut left, &mut right).unwrap();
+    assert_eq!((told.points(), told.delays()), (2, both(0.0)));
+    let near = |a: f32, b: f32| (a - b).abs() < 1e-4;
+    assert!(near(left[0], 4.0) && near(left[1], 5.0) && near(right[0], 6.0) && near(right[1], 7.0), "{left:?} {right:?}");
+    let plain = set.filter_nointerp(middle, &mut left, &mut right).unwrap();
+    assert_eq!(plain, Filtered::Exact(both(0.0)));
+    assert!(left == [0.0, 1.0] || left == [8.0, 9.0]);
+}
+
+#[test]
+fn nearest_and_drawn_to_the_radii() {
+    let set = two();
+    assert_eq!(set.find([-3.0, 0.5, 0.0]), Ok(1));
+    let mut at = [4.0, 0.0, 0.0];
+    assert_eq!(set.find_mut(&mut at), Ok(0));
+    assert_eq!(at, [1.0, 0.0, 0.0]);
+    let mut bad = [0.5, 0.5, f32::INFINITY];
+    assert_eq!(set.find_mut(&mut bad).unwrap_err().place, 2);
+    assert_eq!(bad, [0.5, 0.5, f32::INFINITY]);
+}
+
+/// A response is a part of the list that was given, whoever owns it.
+#[test]
+fn responses_are_views() {
+    let set = two();
+    assert_eq!(set.left_response(1), Ok(&RESPONSES[2..3]));
+    assert_eq!(set.right_response(1).unwrap().as_ptr(), RESPONSES[3..].as_ptr());
+    let shared: Arc<[f32]> = Arc::from(&RESPONSES[..]);
+    let owner = Set::load(Kind::CARTESIAN, SIZES, &POSITIONS, shared.clone(), Arc::from(&DELAYS[..]), 0.5, 0.01, 48000.0).unwrap();
+    assert_eq!(owner.left_response(0).unwrap().as_ptr(), shared.as_ptr());
+    assert_eq!(owner.left_response(2).unwrap_err().to_string(), "there is no measurement of this number (refusal 8, place 2)");
+}
+
+#[test]
+fn by_number() {
+    let set = two();
+    let (mut left, mut right) = ([9.0; 1], [9.0; 1]);
+    assert_eq!(set.filter_number(0, &mut left, &mut right), Ok(Filtered::Exact(both(0.0078125))));
+    assert_eq!((left, right), ([0.5], [0.25]));
+    assert_eq!(set.max_delay(), Ok(Seconds(0.0078125)));
+    let alone = Neighbors { phi_plus: None, phi_minus: None, theta_plus: None, theta_minus: None, radius_plus: None, radius_minus: None };
+    assert_eq!(set.neighbors_of(0), Ok(alone));
+    let circle = Set::load(
+        Kind::SPHERICAL,
+        Sizes { m: 3, n: 0, ..SIZES },
+        &[0.0, 0.0, 1.0, 40.0, 0.0, 1.0, 320.0, 0.0, 1.0],
+        vec![],
+        vec![],
+        5.0,
+        0.01,
+        48000.0,
+    )
+    .unwrap();
+    let around = circle.neighbors_of(0).unwrap();
+    assert_eq!((around.phi_plus, around.phi_minus, around.radius_plus), (Some(1), Some(2), None));
+}
+
+/// A kept index stands for the load.
+#[test]
+fn an_index_can_be_kept() {
+    let set = two();
+    let again = Set::with_index(set.sizes(), set.index().clone(), &RESPONSES[..], &DELAYS[..], 48000.0);
+    let (mut a, mut b, mut c, mut d) = ([0.0; 1], [0.0; 1], [0.0; 1], [0.0; 1]);
+    for at in [[2.0, 0.0, 0.0], [0.0, 0.25, -3.0], [-1.0, 0.0, 0.0]] {
+        assert_eq!(set.filter(at, &mut a, &mut b), again.filter(at, &mut c, &mut d));
+        assert_eq!((a, b), (c, d));
+    }
+}
+
+/// A set can be asked from several threads at once.
+#[test]
+fn sets_are_shared_between_threads() {
+    let set = two();
+    std::thread::scope(|scope| {
+        for number in 0..2u16 {
+            let set = &set;
+            scope.spawn(move || assert_eq!(set.find([1.0 - 2.0 * f32::from(number), 0.0, 0.0]), Ok(number)));
+        }
+    });
+}
+
+/// Document 01's examples P1 to P7.
+#[test]
+fn bare_trees() {
+    let filled = |points: &[([f32; 3], u16)]| {
+        let mut tree = Tree::new();
+        for &(point, number) in points {
+            tree.insert(point, number).unwrap();
+        }
+        tree
+    };
+    assert_eq!(filled(&[]).nearest([0.0; 3]), Ok(None));
+    let two = filled(&[([0.0; 3], 0), ([2.0, 0.0, 0.0], 1)]);
+    assert_eq!(two.nearest([1.0, 0.0, 0.0]), Ok(Some(0)));
+    assert_eq!(two.nearest([f32::NAN, 0.0, 0.0]), Ok(Some(0)));
+    assert_eq!(filled(&[([2.0, 0.0, 0.0], 1), ([0.0; 3], 0)]).nearest([1.0, 0.0, 0.0]), Ok(Some(1)));
+    let three = filled(&[([10.0, 0.0, 0.0], 0), ([1.0, 0.0, 0.0], 1), ([-1.0, 0.0, 0.0], 2)]);
+    assert_eq!(three.nearest([0.0; 3]), Ok(Some(1)));
+    assert_eq!(filled(&[([0.0; 3], 0), ([0.0, 1.0, 0.0], 1)]).nearest([0.0, 1.0, 0.0]), Ok(Some(1)));
+    assert_eq!(filled(&[([3e38, 0.0, 0.0], 0), ([1e38, 0.0, 0.0], 1)]).nearest([-3e38, 0.0, 0.0]), Ok(Some(0)));
+}
+
+#[test]
+fn numbers() {
+    assert_eq!(sofa::root(2.0), std::f32::consts::SQRT_2);
+    assert!(sofa::root(-1.0).is_nan());
+    assert_eq!((sofa::sine(0.0), sofa::cosine(0.0)), (Ok(0.0), Ok(1.0)));
+    assert_eq!(sofa::arctangent(1.0, 0.0), Ok(std::f32::consts::FRAC_PI_2));
+    let mut values = [0.0, 2.0, 0.0, f32::NAN];
+    assert_eq!(sofa::to_spherical(&mut values), Ok(()));
+    assert_eq!(values[..3], [90.0, 0.0, 2.0]);
+    assert!(values[3].is_nan());
+}

@@ -1,0 +1,5 @@
+pub mod Positions
+pub mod Loaded
+pub mod Checks
+pub mod Load
+pub mod Domain

@@ -1,0 +1,120 @@
+-- What a turn comes to, by what the code was told of the chunk and of the line; and what stands at the front of a list that was written.
+-- Assumes nothing.
+use Prim.Native.Nat.{ℕ, _≤_, _<_}
+use mathlib.Core.Path.{_≡_, sym, ap, subst, _∙_}
+use mathlib.Core.Bool.{true, false}
+use mathlib.Core.List.{List, []}
+use native.Mathlib.Omega.{arith}
+use lib.ListN.{length, take, drop, drop-of-length-le, length-append}
+use Rattle.lists.specs.Over.{over}
+use Rattle.lists.proofs.Laws.{take-over}
+use Rattle.lines.specs.declared.Cut.{Cut}
+use Rattle.lines.specs.declared.Cut.the-variants.{Line, More}
+use Rattle.lines.specs.Lines.{Within, cut, partOf}
+use Rattle.lines.specs.Machine.{At, choose}
+use Rattle.settext.specs.declared.State.{State}
+use Rattle.settext.specs.declared.Step.{Step}
+use Rattle.settext.specs.declared.Step.the-variants.{Next, Complete, Query, Malformed}
+use Rattle.settext.specs.Lines.{Lists, After, lineOf}
+use Rattle.setread.proofs.Reached.{line}
+use Rattle.points.specs.declared.Point3.{Point3}
+use Rattle.lookup.specs.declared.Lookup.{Lookup}
+use Rattle.loads.specs.declared.Loaded.{Loaded}
+use Rattle.loads.specs.declared.Loaded.the-variants as loaded
+use Rattle.loads.specs.Load.{Work, Load, loadAs}
+use Rattle.blocks.specs.Blocks.{refusedText, formError}
+use Rattle.answers.specs.Answers.{setOf}
+use Rattle.queries.specs.declared.Phase.{Phase}
+use Rattle.queries.specs.declared.Phase.the-variants.{Ready, Over}
+use Rattle.queries.specs.Program.{Session, session, Turn, turn, stateIn, isOver, moved, loadTurn, byLoad, blockIn, stepTurn, afterTurn, lineTurn}
+use Rattle.queries.specs.Sound.{Few, SoundPhase}
+use Rattle.queries.specs.Machine.{Advance, between, advanceAs, lineAdvance, partAdvance, advanceOf}
+
+-- once over, nothing is read and nothing printed
+pub silent : (room : ℕ) (a : At Session) (s : List ℕ) → isOver (a .known .phase) ≡ true → advanceOf room a s ≡ advanceAs a [] []
+unfolding advanceOf choose
+silent room a s e = rw e
+
+pub goes-by : (room : ℕ) (a : At Session) (s : List ℕ) → isOver (a .known .phase) ≡ false → advanceOf room a s ≡ partAdvance (a .known) (cut (take room) (a .have) s)
+unfolding advanceOf choose
+goes-by room a s e = rw e
+
+none-left : (s : List ℕ) → drop (length s) s ≡ []
+none-left s = let h : length s ≤ length s = omega arith in drop-of-length-le s h
+
+pub all-over : (room : ℕ) (a : At Session) (s chunk : List ℕ) → isOver (a .known .phase) ≡ true → advanceAs a (drop (length chunk) chunk) [] ≡ advanceOf room a s
+all-over room a s chunk e = ap (λ (l : List ℕ). advanceAs a l []) (none-left chunk) ∙ sym (silent room a s e)
+
+module _ (buf buf′ chunk : List ℕ) (k : Session) (from used : ℕ) (r : Cut) (going : isOver (k .phase) ≡ false)
+    (said : partOf r buf′ chunk ≡ cut (take (length buf)) (take used buf) (drop from chunk)) where
+  by-cut : partAdvance k (partOf r buf′ chunk) ≡ advanceOf (length buf) (between k (take used buf)) (drop from chunk)
+  by-cut = ap (partAdvance k) said ∙ sym (goes-by (length buf) (between k (take used buf)) (drop from chunk) going)
+
+  pub a-line : (next n : ℕ) → r ≡ Line next n → (t : Turn) → t ≡ lineTurn k (take n buf′)
+      → lineAdvance t (drop next chunk) ≡ advanceOf (length buf) (between k (take used buf)) (drop from chunk)
+  a-line next n e t f = ap (λ (t : Turn). lineAdvance t (drop next chunk)) f ∙ ap (λ (r : Cut). partAdvance k (partOf r buf′ chunk)) (sym e) ∙ by-cut
+
+  pub no-line : (n : ℕ) → r ≡ More n → advanceAs (between k (take n buf′)) (drop (length chunk) chunk) [] ≡ advanceOf (length buf) (between k (take used buf)) (drop from chunk)
+  no-line n e =
+      ap (λ (l : List ℕ). advanceAs (between k (take n buf′)) l []) (none-left chunk) ∙ ap (λ (r : Cut). partAdvance k (partOf r buf′ chunk)) (sym e) ∙ by-cut
+
+-- how far the code was told to go
+module _ (buf chunk : List ℕ) (from : ℕ) (r : Cut) where
+  pub found-line : (next n : ℕ) → r ≡ Line next n → Within r from (length buf) (length chunk) → (n ≤ length buf) × (from < next) × (next ≤ length chunk)
+  found-line next n e h = subst (λ (r : Cut). Within r from (length buf) (length chunk)) e h
+
+  pub found-more : (n : ℕ) → r ≡ More n → Within r from (length buf) (length chunk) → n ≤ length buf
+  found-more n e h = subst (λ (r : Cut). Within r from (length buf) (length chunk)) e h
+
+-- what was written at the front
+module _ (xs d d′ : List ℕ) (n : ℕ) (e : n ≡ length xs) (f : d′ ≡ over xs d) where
+  pub front : take n d′ ≡ xs
+  front = ap (λ (l : List ℕ). take n l) f ∙ ap (λ (n : ℕ). take n (over xs d)) e ∙ take-over xs d
+
+  pub fits : n ≤ length d′
+  unfolding over
+  fits = omega (arith, ap length f, length-append xs (drop (length xs) d))
+
+-- a load, by what it answered
+module _ (s : State) (d : Lists) (w′ : Work) (a : Loaded) (l : Load) (told : loadAs a w′ ≡ l) where
+  by-answer : loadTurn s d w′ a ≡ byLoad s d l
+  by-answer = ap (byLoad s d) told
+
+  pub load-ready : (look : Lookup) → a ≡ loaded.Ready look → turn (Ready s look) d w′ [] ≡ byLoad s d l
+  load-ready look e = ap (loadTurn s d w′) (sym e) ∙ by-answer
+
+  pub load-refused : (reason place : ℕ) → a ≡ loaded.Refused reason place
+      → (out out′ : List ℕ) (n : ℕ) → n ≡ length (refusedText reason place) → out′ ≡ over (refusedText reason place) out
+      → turn Over d w′ (take n out′) ≡ byLoad s d l
+  load-refused reason place e out out′ n f g =
+      ap (turn Over d w′) (front (refusedText reason place) out out′ n f g) ∙ ap (loadTurn s d w′) (sym e) ∙ by-answer
+
+-- a line, by what it was
+module _ (f : Phase) (d : Lists) (w : Work) (t : Step) where
+  pub step-next : (g : Phase) (s : State) → g ≡ moved f s → t ≡ Next s → turn g d w [] ≡ stepTurn f t d w
+  step-next g s a e = ap (λ (g : Phase). turn g d w []) a ∙ ap (λ (t : Step). stepTurn f t d w) (sym e)
+
+  pub step-complete : (s : State) (x : Turn) → x ≡ byLoad s d (setOf s (d .positions) (length (d .responses)) w) → t ≡ Complete s → x ≡ stepTurn f t d w
+  step-complete s x a e = a ∙ ap (λ (t : Step). stepTurn f t d w) (sym e)
+
+  pub step-query : (g : Phase) (s : State) (q : Point3) (out out′ : List ℕ) (n : ℕ) → g ≡ moved f s → t ≡ Query s q
+      → n ≡ length (blockIn f s (d .responses) (d .delays) w q) → out′ ≡ over (blockIn f s (d .responses) (d .delays) w q) out → turn g d w (take n out′) ≡ stepTurn f t d w
+  step-query g s q out out′ n a e h k =
+      ap (λ (g : Phase). turn g d w (take n out′)) a
+      ∙ ap (turn (moved f s) d w) (front (blockIn f s (d .responses) (d .delays) w q) out out′ n h k)
+      ∙ ap (λ (t : Step). stepTurn f t d w) (sym e)
+
+  pub step-bad : (k : ℕ) (out out′ : List ℕ) (n : ℕ) → t ≡ Malformed k → n ≡ length (formError k) → out′ ≡ over (formError k) out → turn Over d w (take n out′) ≡ stepTurn f t d w
+  step-bad k out out′ n e h g = ap (turn Over d w) (front (formError k) out out′ n h g) ∙ ap (λ (t : Step). stepTurn f t d w) (sym e)
+
+module _ (f : Phase) (d : Lists) (l : List ℕ) (a : After) (s : State) (told : a ≡ lineOf s l d) (of : s ≡ stateIn f) where
+  by-line : a ≡ lineOf (stateIn f) l d
+  by-line = told ∙ ap (λ (s : State). lineOf s l d) of
+
+  -- the limits hold of what the line was
+  pub line-few : SoundPhase f → Few (a .step)
+  line-few h = subst (λ (a : After). Few (a .step)) (sym by-line) (line (stateIn f) h l d)
+
+  pub line-turn : (w : Work) → stepTurn f (a .step) (a .lists) w ≡ lineTurn (session f d w) l
+  unfolding lineTurn
+  line-turn w = ap (λ (a : After). afterTurn f a w) by-line

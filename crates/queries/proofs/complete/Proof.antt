@@ -1,0 +1,91 @@
+-- `queries::complete` meets its contract. Assumes nothing.
+use native.Mathlib.Omega.{arith}
+use mathlib.Core.Path.{_∙_}
+use native.Mathlib.Nat.{zero-add}
+use Rattle.blocks.specs.Put.{into}
+use Rattle.blocks.proofs.Rooms.{refused-room}
+use Rattle.queries.proofs.Turns.{fits, load-ready, load-refused}
+use borrow.Author.Needs.{needs}
+use Rattle.queries.proofs.complete.Statement.{statement}
+use Rattle.queries.proofs.complete.Tie as tie
+
+load-requires : tie.Need-load-requires
+load-requires c κs = search needs
+
+enum-known-look : tie.Need-enum-known-look
+enum-known-look c = search needs
+
+enum-known-reason : tie.Need-enum-known-reason
+enum-known-reason c = search needs
+
+cast-refused-block : tie.Need-cast-refused-block
+cast-refused-block c = search needs
+
+refused-block-requires : tie.Need-refused-block-requires
+refused-block-requires c κs =
+    let g = c .before .before .reason .given .0 in
+    omega (arith, refused-room (g .0) (g .1 .0), c .before .before .before .before .before .before .before .before .before .before .before .before .before .before .before .before .before .before .before .before .before .before .before .before .pre .1)
+
+same-length : tie.Need-same-length
+same-length c = search needs
+
+same-length-2 : tie.Need-same-length-2
+same-length-2 c = search needs
+
+same-length-3 : tie.Need-same-length-3
+same-length-3 c = search needs
+
+same-length-4 : tie.Need-same-length-4
+same-length-4 c = search needs
+
+returns : tie.Need-returns
+returns c = record {
+  same = λ d. load-ready (c .before .before .before .before .before .before .before .before .before .before .before .before .before .before .before .before .before .before .before .before .before .before .before .args .s) d _ _ _ (c .before .before .before .before .before .before .before .before .before .before .before .load .ensures) _ (c .before .look .given .1);
+  count = omega arith;
+}
+
+same-length-5 : tie.Need-same-length-5
+same-length-5 c = search needs
+
+same-length-6 : tie.Need-same-length-6
+same-length-6 c = search needs
+
+same-length-7 : tie.Need-same-length-7
+same-length-7 c = search needs
+
+same-length-8 : tie.Need-same-length-8
+same-length-8 c = search needs
+
+same-length-9 : tie.Need-same-length-9
+same-length-9 c = search needs
+
+returns-2 : tie.Need-returns-2
+unfolding into
+returns-2 c =
+    let w = c .before .before .refused-block .ensures in
+    let e = w .0 ∙ zero-add _ in
+    record {
+      same = λ d. load-refused (c .before .before .before .before .before .before .before .before .before .before .before .before .before .before .before .before .before .before .before .before .before .before .before .before .before .before .before .args .s) d _ _ _ (c .before .before .before .before .before .before .before .before .before .before .before .before .before .before .before .load .ensures) _ _ (c .before .before .before .before .before .reason .given .1) _ _ _ e (w .1);
+      count = fits _ _ _ _ e (w .1);
+    }
+
+pub complete-spec : {M : Type 1} → statement M
+complete-spec =
+    tie.close
+    (tie.spec
+    load-requires
+    enum-known-look
+    enum-known-reason
+    cast-refused-block
+    refused-block-requires
+    same-length
+    same-length-2
+    same-length-3
+    same-length-4
+    returns
+    same-length-5
+    same-length-6
+    same-length-7
+    same-length-8
+    same-length-9
+    returns-2)

@@ -1,0 +1,163 @@
+-- `queries::turn` meets its contract. Assumes nothing.
+use Prim.Native.Nat.{ℕ}
+use native.Mathlib.Omega.{arith}
+use mathlib.Core.Path.{sym, ap, subst, _∙_}
+use lib.Dec.{lit≤}
+use lib.ListN.{length, take, drop}
+use lib.Seq.{length-take-le}
+use denote.Ref.{now}
+use Rattle.loads.specs.Load.{workOf}
+use Rattle.queries.specs.Program.{Turn, session, listsOf}
+use Rattle.queries.specs.Sound.{SoundPhase}
+use Rattle.queries.specs.Machine.{between}
+use Rattle.queries.proofs.Keeps.{turn-sound}
+use Rattle.queries.proofs.Turns.{all-over, found-line, found-more, a-line, no-line}
+use borrow.Author.Needs.{needs}
+use Rattle.queries.proofs.turn.Statement.{statement}
+use Rattle.queries.proofs.turn.Tie as tie
+
+is-over-requires : tie.Need-is-over-requires
+is-over-requires c κs = search needs
+
+returns : tie.Need-returns
+returns c =
+    let s = c .before .before .before .before .before .before .before .before .before .before .before .before .before .before in
+    let a = s .args in
+    let d = listsOf (now (a .positions)) (now (a .responses)) (now (a .delays)) in
+    let w = workOf (now (a .left)) (now (a .right)) (now (a .neighbours)) (now (a .cartesian)) in
+    let k = session (a .t .phase) d w in
+    record {
+      same = all-over (length (now (a .buf))) (between k (take (a .t .used) (now (a .buf)))) (drop (a .at) (now (a .chunk))) (now (a .chunk)) (sym (c .before .is-over .ensures) ∙ c .if1 .taken);
+      sound = s .pre .1;
+      next = omega arith;
+      moves = λ h. h;
+      count = omega arith;
+    }
+
+next-line-requires : tie.Need-next-line-requires
+next-line-requires c κs = search needs
+
+enum-known-next : tie.Need-enum-known-next
+enum-known-next c = search needs
+
+slice-reshare-prefix-take-line : tie.Need-slice-reshare-prefix-take-line
+slice-reshare-prefix-take-line c =
+    let s = c .before .before .before .before .before .before .before .before .before .before .before .before .before .before .before .before .before .before .before .before .before in
+    let n = c .before .before .before .before .before .next-line in
+    let g = c .before .next .given in
+    let f = found-line (now (s .args .buf)) (now (s .args .chunk)) (s .args .at) _ _ _ (g .1) (n .ensures .within) in
+    omega (arith, f .0, n .kept .1 .1 .0)
+
+slice-aggregate-take-line : tie.Need-slice-aggregate-take-line
+slice-aggregate-take-line c =
+    let s = c .before .before .before .before .before .before .before .before .before .before .before .before .before .before .before .before .before .before .before .before .before .before in
+    let n = c .before .before .before .before .before .before .next-line in
+    let g = c .before .before .next .given in
+    let f = found-line (now (s .args .buf)) (now (s .args .chunk)) (s .args .at) _ _ _ (g .1) (n .ensures .within) in
+    sym (length-take-le (g .0 .1 .0) (n .last .1 .1 .0) (omega (arith, f .0, n .kept .1 .1 .0)))
+
+take-line-requires : tie.Need-take-line-requires
+take-line-requires c κs = search needs
+
+enum-known-n : tie.Need-enum-known-n
+enum-known-n c = search needs
+
+same-length : tie.Need-same-length
+same-length c = search needs
+
+same-length-2 : tie.Need-same-length-2
+same-length-2 c = search needs
+
+same-length-3 : tie.Need-same-length-3
+same-length-3 c = search needs
+
+same-length-4 : tie.Need-same-length-4
+same-length-4 c = search needs
+
+same-length-5 : tie.Need-same-length-5
+same-length-5 c = search needs
+
+same-length-6 : tie.Need-same-length-6
+same-length-6 c = search needs
+
+same-length-7 : tie.Need-same-length-7
+same-length-7 c = search needs
+
+same-length-8 : tie.Need-same-length-8
+same-length-8 c = search needs
+
+same-length-9 : tie.Need-same-length-9
+same-length-9 c = search needs
+
+same-length-10 : tie.Need-same-length-10
+same-length-10 c = search needs
+
+same-length-11 : tie.Need-same-length-11
+same-length-11 c = search needs
+
+returns-2 : tie.Need-returns-2
+returns-2 c =
+    let s = c .before .before .before .before .before .before .before .before .before .before .before .before .before .before .before .before .before .before .before .before .before .before .before .before .before .before .before .before .before .before .before .before .before .before .before .before .before .before .before .before .before .before .before .before .before .before .before .before .before .before .before .before .before in
+    let a = s .args in
+    let d = listsOf (now (a .positions)) (now (a .responses)) (now (a .delays)) in
+    let w = workOf (now (a .left)) (now (a .right)) (now (a .neighbours)) (now (a .cartesian)) in
+    let k = session (a .t .phase) d w in
+    let n = c .before .before .before .before .before .before .before .before .before .before .before .before .before .before .before .before .before .before .before .before .before .before .before .before .before .before .before .before .before .before .before .before .before .before .before .before .before .next-line in
+    let g = c .before .before .before .before .before .before .before .before .before .before .before .before .before .before .before .before .before .before .before .before .before .before .before .before .before .before .before .before .before .before .before .before .before .next .given in
+    let f = found-line (now (a .buf)) (now (a .chunk)) (a .at) _ _ _ (g .1) (n .ensures .within) in
+    let t = c .before .before .before .before .before .before .before .before .before .before .before .before .before .before .before .before .before .before .before .before .take-line .ensures in
+    record {
+      same = a-line (now (a .buf)) (n .last .1 .1 .0) (now (a .chunk)) k (a .at) (a .t .used) (n .result) (sym (c .before .before .before .before .before .before .before .before .before .before .before .before .before .before .before .before .before .before .before .before .before .before .before .before .before .before .before .before .before .before .before .before .before .before .before .before .before .before .before .before .is-over .ensures) ∙ c .before .before .before .before .before .before .before .before .before .before .before .before .before .before .before .before .before .before .before .before .before .before .before .before .before .before .before .before .before .before .before .before .before .before .before .before .before .before .before .if1 .left) (n .ensures .same) (g .0 .0) (g .0 .1 .0) (g .1) _ (t .same);
+      sound = record { limits = subst SoundPhase (sym (ap (λ (t : Turn). t .session .phase) (t .same))) (turn-sound k (take (g .0 .1 .0) (n .last .1 .1 .0)) (s .pre .1 .limits)); used = lit≤ tt };
+      next = f .2;
+      moves = λ h. f .1;
+      count = t .count;
+    }
+
+same-length-12 : tie.Need-same-length-12
+same-length-12 c = search needs
+
+returns-3 : tie.Need-returns-3
+returns-3 c =
+    let s = c .before .before .before .before .before .before .before .before .before .before .before .before .before .before .before .before .before .before .before .before .before in
+    let a = s .args in
+    let d = listsOf (now (a .positions)) (now (a .responses)) (now (a .delays)) in
+    let w = workOf (now (a .left)) (now (a .right)) (now (a .neighbours)) (now (a .cartesian)) in
+    let k = session (a .t .phase) d w in
+    let n = c .before .before .before .before .before .next-line in
+    let g = c .before .n .given in
+    let f = found-more (now (a .buf)) (now (a .chunk)) (a .at) _ _ (g .1) (n .ensures .within) in
+    record {
+      same = no-line (now (a .buf)) (n .last .1 .1 .0) (now (a .chunk)) k (a .at) (a .t .used) (n .result) (sym (c .before .before .before .before .before .before .before .before .is-over .ensures) ∙ c .before .before .before .before .before .before .before .if1 .left) (n .ensures .same) (g .0 .0) (g .1);
+      sound = record { limits = s .pre .1 .limits; used = omega (arith, f, s .pre .2) };
+      next = omega arith;
+      moves = λ h. h;
+      count = omega arith;
+    }
+
+pub turn-spec : {M : Type 1} → statement M
+turn-spec =
+    tie.close
+    (tie.spec
+    is-over-requires
+    returns
+    next-line-requires
+    enum-known-next
+    slice-reshare-prefix-take-line
+    slice-aggregate-take-line
+    take-line-requires
+    enum-known-n
+    same-length
+    same-length-2
+    same-length-3
+    same-length-4
+    same-length-5
+    same-length-6
+    same-length-7
+    same-length-8
+    same-length-9
+    same-length-10
+    same-length-11
+    returns-2
+    same-length-12
+    returns-3)

@@ -1,0 +1,88 @@
+-- One turn of the program: it reads a chunk up to the end of a line, or to the chunk's end, and says what to print. Definitions only.
+use Prim.Native.Nat.{ℕ, _≤_, _<_}
+use mathlib.Core.Path.{_≡_}
+use mathlib.Core.List.{List, [], _∷_, _++_}
+use lib.ListN.{length, take, drop}
+use lib.Ieee.{Float}
+use Rattle.lines.specs.Lines.{Part, line, more, cut}
+use Rattle.lines.specs.Machine.{At, choose}
+use Rattle.settext.specs.declared.State.{State}
+use Rattle.settext.specs.declared.Step.{Step}
+use Rattle.settext.specs.State.{startOf}
+use Rattle.settext.specs.Lines.{Lists}
+use Rattle.loads.specs.Load.{Work}
+use Rattle.answers.specs.Answers.{setOf}
+use Rattle.queries.specs.declared.Phase.{Phase}
+use Rattle.queries.specs.declared.Phase.the-variants.{Reading}
+use Rattle.queries.specs.declared.Run.{Run}
+use Rattle.queries.specs.declared.Turned.{Turned}
+use Rattle.queries.specs.declared.Told.{Told}
+use Rattle.queries.specs.Program.{Session, session, Turn, turn, isOver, byLoad, stepTurn, lineTurn, closing}
+use Rattle.queries.specs.Sound.{Sound}
+
+abbrev pub startRun : Run
+startRun = record { phase = Reading startOf; used = 0 }
+
+-- between two bytes: the session, and what is kept of the line begun
+abbrev pub between : Session → List ℕ → At Session
+between k h = record { known = k; have = h }
+
+-- where a turn comes to, what is left of the chunk, and what is printed
+pub record Advance : Type 0 where
+  pub place : At Session
+  pub left : List ℕ
+  pub printed : List ℕ
+
+abbrev pub advanceAs : At Session → List ℕ → List ℕ → Advance
+advanceAs a l p = record { place = a; left = l; printed = p }
+
+abbrev pub lineAdvance : Turn → List ℕ → Advance
+lineAdvance t rest = advanceAs (between (t .session) []) rest (t .printed)
+
+abbrev pub partAdvance : Session → Part → Advance
+partAdvance k (line l rest) = lineAdvance (lineTurn k l) rest
+partAdvance k (more h) = advanceAs (between k h) [] []
+
+-- with a line buffer of so many bytes; once over, nothing is read and nothing printed
+unfoldable pub advanceOf : ℕ → At Session → List ℕ → Advance
+advanceOf room a s = choose (isOver (a .known .phase)) (advanceAs a [] []) (partAdvance (a .known) (cut (take room) (a .have) s))
+
+-- the place that a run stands for, by the lent lists
+abbrev pub placeOf : Run → Lists → Work → List ℕ → At Session
+placeOf t d w buf = between (session (t .phase) d w) (take (t .used) buf)
+
+-- what `out` holds at its front is printed
+pub record LoadSays (s : State) (positions responses : List Float) (w w′ : Work) (out′ : List ℕ) (r : Turned) : Type 0 where
+  pub same : (d : Lists) → turn (r .phase) d w′ (take (r .count) out′) ≡ byLoad s d (setOf s positions (length responses) w)
+  pub count : r .count ≤ length out′
+
+pub record StepSays (f : Phase) (t : Step) (d : Lists) (w w′ : Work) (out′ : List ℕ) (r : Turned) : Type 0 where
+  pub same : turn (r .phase) d w′ (take (r .count) out′) ≡ stepTurn f t d w
+  pub count : r .count ≤ length out′
+
+pub record LineSays (f : Phase) (l : List ℕ) (d d′ : Lists) (w w′ : Work) (out′ : List ℕ) (r : Turned) : Type 0 where
+  pub same : turn (r .phase) d′ w′ (take (r .count) out′) ≡ lineTurn (session f d w) l
+  pub count : r .count ≤ length out′
+
+pub record AdvanceSays (chunk : List ℕ) (from : ℕ) (buf buf′ : List ℕ) (t : Run) (d d′ : Lists) (w w′ : Work) (out′ : List ℕ) (r : Told) : Type 0 where
+  pub same : advanceAs (placeOf (r .run) d′ w′ buf′) (drop (r .next) chunk) (take (r .count) out′) ≡ advanceOf (length buf) (placeOf t d w buf) (drop from chunk)
+  pub sound : Sound (r .run)
+  pub next : r .next ≤ length chunk
+  pub moves : from < length chunk → from < r .next
+  pub count : r .count ≤ length out′
+
+pub record FinishSays (buf : List ℕ) (t : Run) (out′ : List ℕ) (r : ℕ) : Type 0 where
+  pub same : take r out′ ≡ closing (t .phase) (take (t .used) buf)
+  pub count : r ≤ length out′
+
+-- ---- chunk after chunk
+
+-- The turns that a program can make of chunks, with a line buffer of so many bytes: from a place, over these chunks, printing this, to a place
+pub data Makes (room : ℕ) : At Session → List (List ℕ) → List ℕ → At Session → Type 0 where
+  -- all is read
+  done : {a : At Session} → Makes room a [] [] a
+  -- a chunk is used up
+  next : {a z : At Session} {cs : List (List ℕ)} {p : List ℕ} → Makes room a cs p z → Makes room a ([] ∷ cs) p z
+  -- a turn, from any place of a chunk
+  goes : {a z : At Session} {c : List ℕ} {cs : List (List ℕ)} {p : List ℕ}
+      → Makes room (advanceOf room a c .place) (advanceOf room a c .left ∷ cs) p z → Makes room a (c ∷ cs) (advanceOf room a c .printed ++ p) z
