@@ -32,13 +32,15 @@ pub struct Tally {
     pub refusals: u64,
     /// Zeros whose sign document 01 leaves open.
     pub open: u64,
+    /// Longest delays that were not compared on 64-bit Arm, for a signalling NaN among the delays.
+    pub aside: u64,
     /// Filter queries: exact, and blended over 1 to 4 points.
     pub points: [u64; 5],
 }
 
 impl Tally {
     fn new(every: bool) -> Tally {
-        Tally { name: String::new(), every, sets: 0, queries: 0, values: 0, differ: 0, refusals: 0, open: 0, points: [0; 5] }
+        Tally { name: String::new(), every, sets: 0, queries: 0, values: 0, differ: 0, refusals: 0, open: 0, aside: 0, points: [0; 5] }
     }
 
     fn told(&mut self, list: &str, index: usize, source: String, port: String) {
@@ -225,6 +227,11 @@ fn compare_conversions(r: &mut Random, t: &mut Tally) {
     t.values("to cartesian", &source, &port);
 }
 
+/// On 64-bit Arm the source's `f32::max` forgets what it had where it meets such a NaN; document 01 passes over every NaN.
+fn signalling(v: &f32) -> bool {
+    v.is_nan() && v.to_bits() & 0x0040_0000 == 0
+}
+
 fn compare(set: &Set, queries: usize, r: &mut Random, t: &mut Tally) {
     t.sets += 1;
     let mut h = host(set, r);
@@ -247,7 +254,11 @@ fn compare(set: &Set, queries: usize, r: &mut Random, t: &mut Tally) {
     t.name = name;
     let longest = h.max_delay();
     t.number("max_delay: reason", 0, 0, longest.reason as usize);
-    t.extreme("max_delay", 0, source.max_delay(), longest.value, set.delays.iter().copied().chain([0.0]));
+    if cfg!(target_arch = "aarch64") && set.delays.iter().any(signalling) {
+        t.aside += 1;
+    } else {
+        t.extreme("max_delay", 0, source.max_delay(), longest.value, set.delays.iter().copied().chain([0.0]));
+    }
     compare_conversions(r, t);
     refusals::after_load(&h, r, t);
 }
@@ -275,6 +286,9 @@ fn main() {
     let t = std::thread::Builder::new().stack_size(STACK).spawn(work).unwrap().join().unwrap();
     let [exact, blended @ ..] = t.points;
     println!("oracle: filters exact {exact}, blended over 1, 2, 3, 4 points {blended:?}; {} zeros of open sign; {} refusals as document 01 has them", t.open, t.refusals);
+    if t.aside > 0 {
+        println!("oracle: {} longest delays put aside, with a signalling NaN on 64-bit Arm", t.aside);
+    }
     println!("oracle: {} sets, {} queries, {} values compared, {} differ (seed {seed})", t.sets, t.queries, t.values, t.differ);
     std::process::exit((t.differ != 0) as i32);
 }
