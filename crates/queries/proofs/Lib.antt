@@ -4,3 +4,4 @@ pub mod Turning
 pub mod Whole
 pub mod Order
 pub mod Enough
+pub mod Each

@@ -5,8 +5,9 @@
 //
 // proofs/Whole.antt: however the text is cut into chunks, all that the turns print and then the end come to `outputOf` of the text (`whole`, `program`),
 // and once over nothing more is printed (`nothing-more`). proofs/Turning.antt: there are turns for every text (`turns`). proofs/Order.antt: no
-// query comes before the set's last line, and nothing else but queries after it (`in-order`). proofs/Keeps.antt: the limits of the text form
-// hold after every line (`turn-sound`), so that the program's lists are never too short (proofs/Enough.antt, `never-short`).
+// query comes before the set's last line, and nothing but queries after it (`in-order`). proofs/Each.antt: a loaded set prints one block for each
+// query, in their order (`each-block`). proofs/Keeps.antt: the limits of the text form hold after every line (`turn-sound`), so that the
+// program's lists are never too short (proofs/Enough.antt, `never-short`).
 ghost use mathlib.Core.Path.{_≡_};
 ghost use Prim.Native.Nat.{_+_, _*_, _≤_};
 ghost use lib.ListN.{length};

@@ -54,7 +54,7 @@ loop-again : tie.Need-loop-again Inv-loop μ-loop
 loop-again c =
     let b = c .before .before .before .before .before in
     let inv = b .before .before .before .before .before .before .before .before .before .before .before .before .before .loop .inv in
-    (b .advance .ensures .next, b .advance .ensures .sound, λ z q m. inv .2 z _ (turned _ _ _ _ _ q z (b .advance .ensures .same) m))
+    (omega (arith, b .advance .ensures .next), b .advance .ensures .sound, λ z q m. inv .2 z _ (turned _ _ _ _ _ q z (b .advance .ensures .same) m))
 
 read-on-requires : tie.Need-read-on-requires Inv-loop μ-loop
 read-on-requires c κs = search needs
