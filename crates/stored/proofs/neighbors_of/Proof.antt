@@ -1,9 +1,9 @@
 -- `reader::neighbors_of` meets its contract. Assumes nothing.
 use denote.Ref.{now}
-use Rattle.reader.proofs.Parts as parts
+use Rattle.stored.proofs.Parts as parts
 use borrow.Author.Needs.{needs}
-use Rattle.reader.proofs.neighbors_of.Statement.{statement}
-use Rattle.reader.proofs.neighbors_of.Tie as tie
+use Rattle.stored.proofs.neighbors_of.Statement.{statement}
+use Rattle.stored.proofs.neighbors_of.Tie as tie
 
 judge-neighbours-requires : tie.Need-judge-neighbours-requires
 judge-neighbours-requires c κs = search needs

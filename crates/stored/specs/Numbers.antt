@@ -10,11 +10,11 @@ use Rattle.limits.specs.Allowed.{responsesFit, neighboursFit}
 use Rattle.limits.specs.Refusals.{verdictOf, numberLines}
 use Rattle.mix.specs.Mix.{startOf}
 use Rattle.interpolate.specs.Blend.{entry}
-use Rattle.reader.specs.declared.Part.{Part}
-use Rattle.reader.specs.declared.Part.the-variants as part
-use Rattle.reader.specs.declared.Entries.{Entries}
-use Rattle.reader.specs.declared.Around.{Around}
-use Rattle.reader.specs.declared.Around.the-variants as around
+use Rattle.stored.specs.declared.Part.{Part}
+use Rattle.stored.specs.declared.Part.the-variants as part
+use Rattle.stored.specs.declared.Entries.{Entries}
+use Rattle.stored.specs.declared.Around.{Around}
+use Rattle.stored.specs.declared.Around.the-variants as around
 
 -- ---- responses
 

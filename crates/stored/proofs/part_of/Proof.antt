@@ -1,8 +1,8 @@
 -- `reader::part_of` meets its contract. Assumes nothing.
-use Rattle.reader.proofs.Parts as parts
+use Rattle.stored.proofs.Parts as parts
 use borrow.Author.Needs.{needs}
-use Rattle.reader.proofs.part_of.Statement.{statement}
-use Rattle.reader.proofs.part_of.Tie as tie
+use Rattle.stored.proofs.part_of.Statement.{statement}
+use Rattle.stored.proofs.part_of.Tie as tie
 
 judge-response-requires : tie.Need-judge-response-requires
 judge-response-requires c κs = search needs

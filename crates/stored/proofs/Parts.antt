@@ -16,16 +16,16 @@ use Rattle.limits.specs.Allowed.{responsesFit, neighboursFit}
 use Rattle.limits.specs.Refusals.{verdictOf, numberLines, rateLines}
 use Rattle.limits.proofs.Passed as passed
 use Rattle.mix.specs.Mix.{startOf}
-use Rattle.reader.specs.declared.Part.{Part}
-use Rattle.reader.specs.declared.Part.the-variants as part
-use Rattle.reader.specs.declared.Entries.{Entries}
-use Rattle.reader.specs.declared.Around.{Around}
-use Rattle.reader.specs.declared.Around.the-variants as around
-use Rattle.reader.specs.Numbers.{partBy, partOf, within, responseOf, entriesOf, aroundBy, aroundOf}
+use Rattle.stored.specs.declared.Part.{Part}
+use Rattle.stored.specs.declared.Part.the-variants as part
+use Rattle.stored.specs.declared.Entries.{Entries}
+use Rattle.stored.specs.declared.Around.{Around}
+use Rattle.stored.specs.declared.Around.the-variants as around
+use Rattle.stored.specs.Numbers.{partBy, partOf, within, responseOf, entriesOf, aroundBy, aroundOf}
 use Rattle.delays.specs.declared.Seconds.{Seconds}
 use Rattle.delays.specs.Delays.{secondsOf}
-use Rattle.reader.specs.declared.MaxDelay.the-variants.{Delay, Refused}
-use Rattle.reader.specs.Longest.{greatest, longestOf, maxBy, maxDelayOf}
+use Rattle.stored.specs.declared.MaxDelay.the-variants.{Delay, Refused}
+use Rattle.stored.specs.Longest.{greatest, longestOf, maxBy, maxDelayOf}
 
 -- ---- taps
 

@@ -3,10 +3,10 @@ use mathlib.Core.Path.{ap, _∙_}
 use denote.Ref.{now}
 use Rattle.delays.specs.declared.Samples.{Samples}
 use Rattle.delays.specs.Delays.{secondsOf}
-use Rattle.reader.proofs.Parts as parts
+use Rattle.stored.proofs.Parts as parts
 use borrow.Author.Needs.{needs}
-use Rattle.reader.proofs.max_delay.Statement.{statement}
-use Rattle.reader.proofs.max_delay.Tie as tie
+use Rattle.stored.proofs.max_delay.Statement.{statement}
+use Rattle.stored.proofs.max_delay.Tie as tie
 
 judge-rate-requires : tie.Need-judge-rate-requires
 judge-rate-requires c κs = search needs

@@ -8,8 +8,8 @@ use Rattle.delays.specs.Delays.{secondsOf}
 use Rattle.limits.specs.declared.Verdict.{Verdict}
 use Rattle.limits.specs.declared.Verdict.the-variants as verdict
 use Rattle.limits.specs.Refusals.{verdictOf, rateLines}
-use Rattle.reader.specs.declared.MaxDelay.{MaxDelay}
-use Rattle.reader.specs.declared.MaxDelay.the-variants.{Delay, Refused}
+use Rattle.stored.specs.declared.MaxDelay.{MaxDelay}
+use Rattle.stored.specs.declared.MaxDelay.the-variants.{Delay, Refused}
 
 -- the greater of a start and all of a list, one after the other; `maxOf` passes over NaN
 unfoldable pub greatest : Float → List Float → Float

@@ -2,10 +2,10 @@
 use native.Mathlib.Omega.{arith}
 use denote.Ref.{now}
 use lib.ListN.{length}
-use Rattle.reader.proofs.Parts as parts
+use Rattle.stored.proofs.Parts as parts
 use borrow.Author.Needs.{needs}
-use Rattle.reader.proofs.response.Statement.{statement}
-use Rattle.reader.proofs.response.Tie as tie
+use Rattle.stored.proofs.response.Statement.{statement}
+use Rattle.stored.proofs.response.Tie as tie
 
 part-of-requires : tie.Need-part-of-requires
 part-of-requires c κs = search needs

@@ -6,11 +6,11 @@ use lib.ListN.{length, drop}
 use lib.Ieee.{Float, ofBits}
 use denote.Ref.{now}
 use Rattle.floats.specs.Floats.{zero32}
-use Rattle.reader.specs.Longest.{greatest}
-use Rattle.reader.proofs.Parts as parts
+use Rattle.stored.specs.Longest.{greatest}
+use Rattle.stored.proofs.Parts as parts
 use borrow.Author.Needs.{needs}
-use Rattle.reader.proofs.longest.Statement.{statement}
-use Rattle.reader.proofs.longest.Tie as tie
+use Rattle.stored.proofs.longest.Statement.{statement}
+use Rattle.stored.proofs.longest.Tie as tie
 
 abbrev Inv-loop : tie.InvT-loop
 Inv-loop delays most₀ i₀ most i = (i ≤ length delays) × (greatest most (drop i delays) ≡ greatest zero32 delays)
