@@ -23,11 +23,11 @@ use Rattle.mix.specs.Mix.{startOf}
 use Rattle.interpolate.specs.Blend.{Filter, extractOf}
 use Rattle.delays.specs.Delays.{secondsOf}
 use Rattle.interpolate.specs.declared.Neighbors as port
-use Rattle.reader.specs.declared.Around.the-variants.{Six}
-use Rattle.reader.specs.declared.MaxDelay.the-variants.{Delay}
-use Rattle.reader.specs.Longest.{greatest, longestOf, maxBy, maxDelayOf}
+use Rattle.stored.specs.declared.Around.the-variants.{Six}
+use Rattle.stored.specs.declared.MaxDelay.the-variants.{Delay}
+use Rattle.stored.specs.Longest.{greatest, longestOf, maxBy, maxDelayOf}
 use Rattle.reader.specs.Queries.{allowed, nearestOr, filterSays, plainSays, numberSays}
-use Rattle.reader.specs.Numbers.{partBy, partOf, within, responseOf, aroundBy, aroundOf, entriesOf}
+use Rattle.stored.specs.Numbers.{partBy, partOf, within, responseOf, aroundBy, aroundOf, entriesOf}
 use Rattle.loads.specs.declared.Loaded.the-variants.{Ready, Refused}
 use Rattle.loads.specs.Load.{Work, Load, cartesianFrom, indexed, loadBy, loadOf}
 use Rattle.loads.proofs.Ways.{as-long}

@@ -17,12 +17,12 @@ use Rattle.lookup.specs.declared.Located.{Located}
 use Rattle.lookup.specs.declared.Located.the-variants.{At}
 use Rattle.lookup.specs.Lookup.{Moved, movedAs, pointIn, putPoint, findOf, findMutOf}
 use Rattle.interpolate.specs.Blend.{Filter}
-use Rattle.reader.specs.declared.MaxDelay.the-variants.{Delay}
-use Rattle.reader.specs.declared.Entries.{Entries}
-use Rattle.reader.specs.declared.Around.the-variants.{Six}
+use Rattle.stored.specs.declared.MaxDelay.the-variants.{Delay}
+use Rattle.stored.specs.declared.Entries.{Entries}
+use Rattle.stored.specs.declared.Around.the-variants.{Six}
 use Rattle.reader.specs.Queries.{filterSays, plainSays, numberSays}
-use Rattle.reader.specs.Numbers.{responseOf, aroundOf}
-use Rattle.reader.specs.Longest.{maxDelayOf}
+use Rattle.stored.specs.Numbers.{responseOf, aroundOf}
+use Rattle.stored.specs.Longest.{maxDelayOf}
 use Rattle.loads.specs.Load.{Work, Load, lengthsIn, loadOf}
 use Rattle.source.specs.Rust.{Option, Some}
 use Rattle.source.specs.Lookup.{Hrtf, find, «find_mut»}

@@ -1,8 +1,8 @@
 -- `angles::cos_fix` meets its contract: the calls of `level` are the levels of `nest`. Assumes nothing.
 use native.Mathlib.Omega.{arith}
 use lib.Dec.{lit≤}
-use Rattle.angles.specs.Steps.{cosFix}
-use Rattle.angles.proofs.Bounds.{square-mul, square-le, level-le}
+use Rattle.sines.specs.Steps.{cosFix}
+use Rattle.sines.proofs.Bounds.{square-mul, square-le, level-le}
 use Rattle.angles.proofs.cos_fix.Statement.{statement}
 use Rattle.angles.proofs.cos_fix.Tie as tie
 

@@ -1,7 +1,7 @@
 -- `angles::sin_fix` meets its contract: the calls of `level` are the levels of `nest`. Assumes nothing.
 use lib.Dec.{lit≤}
-use Rattle.angles.specs.Steps.{sinFix}
-use Rattle.angles.proofs.Bounds.{square-mul, square-le, sin-mul, level-le}
+use Rattle.sines.specs.Steps.{sinFix}
+use Rattle.sines.proofs.Bounds.{square-mul, square-le, sin-mul, level-le}
 use Rattle.angles.proofs.sin_fix.Statement.{statement}
 use Rattle.angles.proofs.sin_fix.Tie as tie
 
