@@ -8,7 +8,7 @@ use lib.Ieee.{Float}
 use Rattle.points.specs.declared.Point3.{Point3}
 use Rattle.points.specs.Points.{Finite}
 use Rattle.lookup.specs.Lookup.{pointIn, putPoint}
-use Rattle.reader.specs.Longest.{maxDelayOf}
+use Rattle.stored.specs.Longest.{maxDelayOf}
 use Rattle.loads.specs.Load.{Work}
 use Rattle.source.specs.Interpolate.{«get_filter_nointerp»}
 use Rattle.source.specs.Reader as source
