@@ -1,6 +1,6 @@
 -- A loaded set prints one block for each query, in their order, and stays as it is: each block is that of its query alone (`each-block`). A line that
 -- is no query prints the form error of its number and ends (`no-query`). Assumes nothing.
-use Prim.Native.Nat.{ℕ, _≤_}
+use Prim.Native.Nat.{ℕ}
 use mathlib.Core.Path.{_≡_, refl, sym, ap, _∙_}
 use mathlib.Core.List.{List, [], _∷_, _++_, append-assoc, append-nil}
 use Rattle.points.specs.declared.Point3.{Point3}
@@ -10,14 +10,14 @@ use Rattle.keys.specs.declared.Place.the-variants as place
 use Rattle.keys.specs.Words.{bytes}
 use Rattle.keys.specs.Keys.{pointBehind}
 use Rattle.settext.specs.declared.State.{State}
-use Rattle.settext.specs.State.{numberOf, totalOf, counted, badOf}
-use Rattle.settext.specs.Lines.{Lists, After, asked, plain, queryLine}
+use Rattle.settext.specs.State.{numberOf, counted, badOf}
+use Rattle.settext.specs.Lines.{Lists, After, asked, queryLine}
 use Rattle.lookup.specs.declared.Lookup.{Lookup}
 use Rattle.loads.specs.Load.{Work}
 use Rattle.blocks.specs.Blocks.{formError}
 use Rattle.answers.specs.Answers.{nearestOf, filteredOf, answerOf}
 use Rattle.queries.specs.declared.Phase.the-variants.{Ready, Over}
-use Rattle.queries.specs.Program.{session, Turn, turn, stepTurn, afterTurn, lineTurn, Known, known, ended, printing, onLine}
+use Rattle.queries.specs.Program.{session, Turn, turn, stepTurn, afterTurn, lineTurn, known, ended, printing, onLine}
 use Rattle.queries.proofs.Order.{InOrder, only-queries, in-order}
 
 -- lines, each of which asks a query

@@ -5,3 +5,4 @@ pub mod Whole
 pub mod Order
 pub mod Enough
 pub mod Each
+pub mod Texts

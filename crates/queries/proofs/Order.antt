@@ -1,18 +1,17 @@
 -- Before the last line of the set no line is a query, and after it no line is anything else but malformed: so each query meets a loaded set, and the
 -- phase `Ready` is left only at the end (`in-order`, `no-query-yet`, `only-queries`). Assumes nothing.
-use Prim.Native.Nat.{ℕ, zero, suc, _+_, _-_, _*_, _≤_, _<_}
-use mathlib.Core.Path.{_≡_, refl, sym, ap, subst, _∙_}
+use Prim.Native.Nat.{ℕ, zero, suc, _-_, _*_, _≤_, _<_}
+use mathlib.Core.Path.{_≡_, refl}
 use mathlib.Core.Bool.{Bool, true, false, cond}
 use mathlib.Core.List.{List, [], _∷_}
 use native.Mathlib.Omega.{arith}
-use lib.Dec.{T, eqb, ltb, lit≤, lit<}
+use lib.Dec.{T, eqb, ltb}
 use lib.ListN.{length, getD, drop}
 use borrow.Author.Tests.{ltb-true, ltb-false, le-ltb, eqb-true, eqb-false}
 use Rattle.text.specs.declared.Num.{Num}
 use Rattle.text.specs.declared.Num.the-variants.{Is, Bad}
 use Rattle.text.specs.Number.{begins, countOf, hexOf}
 use Rattle.text.specs.Values.{valueOf}
-use Rattle.points.specs.declared.Point3.{Point3}
 use Rattle.keys.specs.declared.Place.{Place}
 use Rattle.keys.specs.declared.Place.the-variants as place
 use Rattle.keys.specs.Words.{bytes}

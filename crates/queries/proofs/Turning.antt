@@ -7,7 +7,7 @@ use mathlib.Core.List.{List, [], _∷_, _++_}
 use native.Mathlib.Omega.{arith}
 use lib.Dec.{eqb}
 use lib.ListN.{length, take}
-use Rattle.lines.specs.Lines.{Part, line, more, pick, cut}
+use Rattle.lines.specs.Lines.{line, pick, cut}
 use Rattle.lines.specs.Machine.{At}
 use Rattle.queries.specs.Program.{Session, isOver}
 use Rattle.queries.specs.Machine.{partAdvance, advanceOf, Makes, done, next, goes}

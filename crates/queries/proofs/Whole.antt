@@ -10,7 +10,7 @@ use lib.ListN.{take, drop}
 use Rattle.lines.specs.Lines.{Part, line, more, cut, whole as all}
 use Rattle.lines.specs.Machine.{At, split, runs, after, shortAt}
 use Rattle.lines.proofs.Chunks.{runs-on, runs-kept, stays, by-lines, by-text, by-rest}
-use Rattle.settext.specs.Lines.{Lists, After, lineOf}
+use Rattle.settext.specs.Lines.{Lists, After}
 use Rattle.setread.specs.Text.{joined}
 use Rattle.setread.proofs.Long.{long-lines}
 use Rattle.setread.proofs.Whole.{end-of}
@@ -20,7 +20,7 @@ use Rattle.queries.specs.declared.Run.{Run}
 use Rattle.queries.specs.declared.Told.{Told}
 use Rattle.queries.specs.declared.Phase.{Phase}
 use Rattle.queries.specs.declared.Phase.the-variants.{Reading, Ready, Over}
-use Rattle.queries.specs.Program.{Session, Turn, Known, known, stateIn, isOver, afterTurn, lineTurn, ended, printing, onLine, endText, closing, closed, begun, outputFrom, noLists, noWork, outputOf}
+use Rattle.queries.specs.Program.{Session, Known, known, stateIn, isOver, afterTurn, lineTurn, ended, printing, onLine, endText, closing, closed, begun, outputFrom, noLists, noWork, outputOf}
 use Rattle.queries.specs.Sound.{SoundPhase}
 use Rattle.queries.specs.Machine.{between, Advance, partAdvance, advanceOf, placeOf, AdvanceSays, FinishSays, Makes, done, next, goes}
 use Rattle.queries.proofs.Keeps.{turn-sound}

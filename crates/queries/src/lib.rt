@@ -7,7 +7,7 @@
 // and once over nothing more is printed (`nothing-more`). proofs/Turning.antt: there are turns for every text (`turns`). proofs/Order.antt: no
 // query comes before the set's last line, and nothing but queries after it (`in-order`). proofs/Each.antt: a loaded set prints one block for each
 // query, in their order (`each-block`). proofs/Keeps.antt: the limits of the text form hold after every line (`turn-sound`), so that the
-// program's lists are never too short (proofs/Enough.antt, `never-short`).
+// program's lists are never too short (proofs/Enough.antt, `never-short`). proofs/Texts.antt: five short texts and all that is printed of them.
 ghost use mathlib.Core.Path.{_≡_};
 ghost use Prim.Native.Nat.{_+_, _*_, _≤_};
 ghost use lib.ListN.{length};
