@@ -35,7 +35,7 @@ mul-result c = omega arith
 
 returns : tie.Need-returns
 unfolding cosFix
-returns c = cc
+returns c = rw (c .level7 .ensures, c .before .level6 .ensures, c .before .before .level5 .ensures, c .before .before .before .level4 .ensures, c .before .before .before .before .level3 .ensures, c .before .before .before .before .before .level2 .ensures, c .before .before .before .before .before .before .level .ensures)
 
 pub cos-fix-spec : {M : Type 1} → statement M
 cos-fix-spec = tie.close (tie.spec mul-t level-requires level-requires-2 level-requires-3 level-requires-4 level-requires-5 level-requires-6 level-requires-7 mul-result returns)

@@ -31,7 +31,7 @@ mul-result c = record { fits = sin-mul (c .before .before .before .before .befor
 
 returns : tie.Need-returns
 unfolding sinFix
-returns c = cc
+returns c = rw (c .level6 .ensures, c .before .level5 .ensures, c .before .before .level4 .ensures, c .before .before .before .level3 .ensures, c .before .before .before .before .level2 .ensures, c .before .before .before .before .before .level .ensures)
 
 pub sin-fix-spec : {M : Type 1} → statement M
 sin-fix-spec = tie.close (tie.spec mul-t level-requires level-requires-2 level-requires-3 level-requires-4 level-requires-5 level-requires-6 mul-result returns)

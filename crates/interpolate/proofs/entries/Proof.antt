@@ -22,7 +22,7 @@ entry-at-requires-6 : tie.Need-entry-at-requires-6
 entry-at-requires-6 c κs = search needs
 
 returns : tie.Need-returns
-returns c = cc
+returns c = λ i. record { «phi_plus» = c .before .before .before .before .before .entry-at .ensures i; «phi_minus» = c .before .before .before .before .entry-at2 .ensures i; «theta_plus» = c .before .before .before .entry-at3 .ensures i; «theta_minus» = c .before .before .entry-at4 .ensures i; «radius_plus» = c .before .entry-at5 .ensures i; «radius_minus» = c .entry-at6 .ensures i }
 
 pub entries-spec : {M : Type 1} → statement M
 entries-spec =
