@@ -227,7 +227,7 @@ fn compare_conversions(r: &mut Random, t: &mut Tally) {
     t.values("to cartesian", &source, &port);
 }
 
-/// On 64-bit Arm the source's `f32::max` forgets what it had where it meets such a NaN; document 01 passes over every NaN.
+/// Compiled by Rust 1.95 for 64-bit Arm, `f32::max` loses what it had where it meets such a NaN; document 01 passes over every NaN.
 fn signalling(v: &f32) -> bool {
     v.is_nan() && v.to_bits() & 0x0040_0000 == 0
 }
