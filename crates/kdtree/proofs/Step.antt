@@ -90,6 +90,9 @@ module _ (left right : List ℕ) (xs : List Float) (count : ℕ) where
     abbrev pub After : ℕ → BoundingBox → ℕ → Best → Searched → Type 0
     After n b axis s w = (f : ℕ) → count - n ≤ f → w ≡ search count q (T f n) b axis s
 
+    pub same-best : (n : ℕ) (b : BoundingBox) (axis : ℕ) (s s' : Best) (w : Searched) → s ≡ s' → After n b axis s w → After n b axis s' w
+    same-best n b axis s s' w e h f le = h f le ∙ ap (λ (z : Best). search count q (T f n) b axis z) e
+
     -- no visit is left
     pub full : (n : ℕ) (b : BoundingBox) (axis : ℕ) (s : Best) → n < count → count ≤ s .visits → After n b axis s Stopped
     unfolding search subtree

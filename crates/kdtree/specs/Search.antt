@@ -1,8 +1,9 @@
 -- The pruned search: nearer side, node, farther side if its box may hold something nearer.
 use Prim.Native.Nat.{ℕ, _+_}
 use mathlib.Core.Bool.{Bool, cond}
-use lib.Dec.{ltb}
+use lib.Dec.{ltb, eqb}
 use lib.Ieee.{Float, lt}
+use Rattle.floats.specs.Floats.{zero32}
 use Rattle.points.specs.declared.Point3.{Point3}
 use Rattle.kdtree.specs.declared.BoundingBox.{BoundingBox}
 use Rattle.kdtree.specs.declared.Best.{Best}
@@ -52,3 +53,11 @@ module _ (count : ℕ) (q : Point3) where
       let deeper = afterNear (cond left-first (search l) (search r) (nearerBox left-first b axis v) (nextAxis axis) (visited s))
       (λ t. farther q (cond left-first r l) (cond left-first (search r) (search l)) (fartherBox left-first b axis v) (nextAxis axis) (improve n (distSq p q) t)) in
       cond (ltb (s .visits) count) deeper Stopped
+
+-- ---- a search's answer in the three fields of a best so far: as many visits as no search makes stand for one that stopped
+
+abbrev pub halted : Best
+halted = record { dist = zero32; place = 65535; visits = 65535 }
+
+unfoldable pub saidBy : Best → Searched
+saidBy r = cond (eqb (r .visits) 65535) Stopped (Found r)

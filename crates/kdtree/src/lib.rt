@@ -11,9 +11,12 @@ ghost use mathlib.Core.Path.{_≡_};
 ghost use mathlib.Core.Bool.{cond};
 ghost use Prim.Native.Nat.{ℕ, _+_, _-_, _*_, _<_, _≤_};
 ghost use lib.ListN.{length, getD};
-ghost use Rattle.kdtree.specs.Geometry.{coordOf, nextAxis, outside, boxDistSq, boxAt, lower, upper, grown, withMin, withMax, goesLeft, leftFirst};
+ghost use lib.Ieee.{binary32, sub, lt, le};
+ghost use Rattle.floats.specs.Floats.{zero32};
+ghost use Rattle.points.specs.Points.{pointAt};
+ghost use Rattle.kdtree.specs.Geometry.{byAxis, coordOf, nextAxis, outside, boxDistSq, boxAt, lower, upper, grown, goesLeft};
 ghost use Rattle.kdtree.specs.Tree.{linkOf, subtree};
-ghost use Rattle.kdtree.specs.Search.{search, improve, nearerBox, fartherBox};
+ghost use Rattle.kdtree.specs.Search.{search, improve, nearerBox, fartherBox, halted, saidBy};
 ghost use Rattle.kdtree.specs.Insert.{listsOf, storedAs, slotIn, written, roomFor, insertOf};
 ghost use Rattle.kdtree.specs.Nearest.{placeOf, lengthsFor, nearestOf};
 
@@ -113,66 +116,51 @@ impl BoundingBox {
         let y = beyond(x, self.min_y, self.max_y, q.y);
         beyond(y, self.min_z, self.max_z, q.z)
     }
-
-    // One lower corner coordinate replaced.
-    fn with_min(mut self, axis: u8, v: f32) -> Self
-        ensures { λ r. ⌜ r ≡ withMin self axis v ⌝ }
-    {
-        match axis {
-            0 => {
-                self.min_x = v;
-                self
-            }
-            1 => {
-                self.min_y = v;
-                self
-            }
-            _ => {
-                self.min_z = v;
-                self
-            }
-        }
-    }
-
-    // One upper corner coordinate replaced.
-    fn with_max(mut self, axis: u8, v: f32) -> Self
-        ensures { λ r. ⌜ r ≡ withMax self axis v ⌝ }
-    {
-        match axis {
-            0 => {
-                self.max_x = v;
-                self
-            }
-            1 => {
-                self.max_y = v;
-                self
-            }
-            _ => {
-                self.max_z = v;
-                self
-            }
-        }
-    }
 }
 
-fn nearer_box(rect: BoundingBox, axis: u8, v: f32, go_left: bool) -> BoundingBox
+// The one or the other: a choice of values, where an `if` around them would be a jump that no processor foresees.
+fn choose(first: bool, a: f32, b: f32) -> f32
+    ensures { λ r. ⌜ r ≡ cond first a b ⌝ }
+{
+    if first { a } else { b }
+}
+
+// One corner replaced: the upper one of the axis where the left side is searched first, else the lower one.
+fn nearer_box(rect: BoundingBox, axis: usize, v: f32, go_left: bool) -> BoundingBox
     ensures { λ r. ⌜ r ≡ nearerBox «go_left» rect axis v ⌝ }
 {
-    if go_left {
-        rect.with_max(axis, v)
-    } else {
-        rect.with_min(axis, v)
+    match axis {
+        0 => BoundingBox {
+            min_x: choose(go_left, rect.min_x, v),
+            min_y: rect.min_y,
+            min_z: rect.min_z,
+            max_x: choose(go_left, v, rect.max_x),
+            max_y: rect.max_y,
+            max_z: rect.max_z,
+        },
+        1 => BoundingBox {
+            min_x: rect.min_x,
+            min_y: choose(go_left, rect.min_y, v),
+            min_z: rect.min_z,
+            max_x: rect.max_x,
+            max_y: choose(go_left, v, rect.max_y),
+            max_z: rect.max_z,
+        },
+        _ => BoundingBox {
+            min_x: rect.min_x,
+            min_y: rect.min_y,
+            min_z: choose(go_left, rect.min_z, v),
+            max_x: rect.max_x,
+            max_y: rect.max_y,
+            max_z: choose(go_left, v, rect.max_z),
+        },
     }
 }
 
-fn farther_box(rect: BoundingBox, axis: u8, v: f32, go_left: bool) -> BoundingBox
+fn farther_box(rect: BoundingBox, axis: usize, v: f32, go_left: bool) -> BoundingBox
     ensures { λ r. ⌜ r ≡ fartherBox «go_left» rect axis v ⌝ }
 {
-    if go_left {
-        rect.with_min(axis, v)
-    } else {
-        rect.with_max(axis, v)
-    }
+    nearer_box(rect, axis, v, !go_left)
 }
 
 // ---- links
@@ -224,12 +212,6 @@ pub enum Searched {
     Stopped,
 }
 
-fn left_first(q: Point3, p: Point3, axis: u8) -> bool
-    ensures { λ r. ⌜ r ≡ leftFirst q p axis ⌝ }
-{
-    coord(q, axis) - coord(p, axis) <= 0.0
-}
-
 // The node wins only if it is strictly nearer.
 fn better(n: u16, d: f32, best: Best) -> Best
     ensures { λ r. ⌜ r ≡ improve n d best ⌝ }
@@ -245,60 +227,183 @@ fn better(n: u16, d: f32, best: Best) -> Best
     }
 }
 
-// Nearer side, node, farther side. The point is read again after the nearer side: that keeps the frame small.
+// A coordinate of the point at a place.
+fn along(positions: &[f32], place: usize, axis: usize) -> f32
+    requires { ⌜ (3 * place + 2 < length (now positions)) × (axis < 3) ⌝ }
+    ensures { λ r. ⌜ r ≡ coordOf (pointAt (now (positions .entry)) place) axis ⌝ }
+{
+    positions[3 * place + axis]
+}
+
+// The query stands in an array, so that its axis is an index.
+fn query_along(q: &[f32; 3], axis: usize) -> f32
+    requires { ⌜ axis < 3 ⌝ }
+    ensures { λ r. ⌜ r ≡ coordOf (pointAt (now (q .entry)) 0) axis ⌝ }
+{
+    q[axis]
+}
+
+// The left side is searched first.
+fn left_first(q: &[f32; 3], axis: usize, v: f32) -> bool
+    requires { ⌜ axis < 3 ⌝ }
+    ensures { λ r. ⌜ r ≡ le (sub binary32 (coordOf (pointAt (now (q .entry)) 0) axis) v) zero32 ⌝ }
+{
+    query_along(q, axis) - v <= 0.0
+}
+
+fn query_point(q: &[f32; 3]) -> Point3
+    ensures { λ r. ⌜ r ≡ pointAt (now (q .entry)) 0 ⌝ }
+{
+    Point3 {
+        x: q[0],
+        y: q[1],
+        z: q[2],
+    }
+}
+
+fn turn_axis(axis: usize) -> usize
+    requires { ⌜ axis < 3 ⌝ }
+    ensures { λ r. ⌜ r ≡ nextAxis axis ⌝ }
+{
+    if axis == 2 { 0 } else { axis + 1 }
+}
+
+fn lower_along(rect: BoundingBox, axis: usize) -> f32
+    ensures { λ r. ⌜ r ≡ byAxis axis (rect .«min_x») (rect .«min_y») (rect .«min_z») ⌝ }
+{
+    match axis {
+        0 => rect.min_x,
+        1 => rect.min_y,
+        _ => rect.min_z,
+    }
+}
+
+// The farther side's box is strictly nearer than the best. Most are not, and show it by the side of the node alone: the box begins at v, and its
+// distance is no less than that of v.
+fn may_hold(rect: BoundingBox, axis: usize, v: f32, go_left: bool, q: &[f32; 3], best: f32) -> bool
+    requires { ⌜ axis < 3 ⌝ }
+    ensures { λ r. ⌜ r ≡ lt (boxDistSq (fartherBox «go_left» rect axis v) (pointAt (now (q .entry)) 0)) best ⌝ }
+{
+    let c = query_along(q, axis);
+    let g = v - c;
+    let low = lower_along(rect, axis);
+    let ahead = go_left & (c < v);
+    let behind = !go_left & !(c < low) & (v < c);
+    if (ahead | behind) & (best <= g * g) {
+        return false;
+    }
+    farther_box(rect, axis, v, go_left).dist_sq(query_point(q)) < best
+}
+
+// No place found: no search visits so many.
+fn stopped() -> Best
+    ensures { λ r. ⌜ r ≡ halted ⌝ }
+{
+    Best {
+        dist: 0.0,
+        place: 65535,
+        visits: 65535,
+    }
+}
+
+// The same, field by field: read whole, right after its fields were written, it would wait for all of them.
+fn copied(b: Best) -> Best
+    ensures { λ r. ⌜ r ≡ b ⌝ }
+{
+    Best {
+        dist: b.dist,
+        place: b.place,
+        visits: b.visits,
+    }
+}
+
+fn link_at(links: &[u16], n: usize) -> u16
+    requires { ⌜ n < length (now links) ⌝ }
+    ensures { λ r. ⌜ r ≡ getD (now (links .entry)) n 0 ⌝ }
+{
+    links[n]
+}
+
+fn either(first: bool, a: u16, b: u16) -> u16
+    ensures { λ r. ⌜ r ≡ cond first a b ⌝ }
+{
+    if first { a } else { b }
+}
+
+// Nearer side, node, farther side. Both links are read before it is known which is which, so that neither is waited for.
 fn nearest_rec(
     positions: &[f32],
     left: &[u16],
     right: &[u16],
     count: usize,
-    q: Point3,
+    q: &[f32; 3],
     rect: BoundingBox,
     node: usize,
-    axis: u8,
+    axis: usize,
     best: Best,
-) -> Searched
-    requires { ⌜ (node < count) × (3 * count ≤ length (now positions)) × (count ≤ length (now left)) × (count ≤ length (now right)) × (count ≤ 16384) ⌝ }
+) -> Best
+    requires { ⌜ (node < count) × (3 * count ≤ length (now positions)) × (count ≤ length (now left)) × (count ≤ length (now right)) × (count ≤ 16384) × (axis < 3) ⌝ }
     ensures { λ r. ⌜ ((f : ℕ) → count - node ≤ f
-        → r ≡ search count q (subtree (now (left .entry)) (now (right .entry)) (now (positions .entry)) count f node) rect axis best) ⌝ }
+        → saidBy r ≡ search count (pointAt (now (q .entry)) 0) (subtree (now (left .entry)) (now (right .entry)) (now (positions .entry)) count f node) rect axis best) ⌝ }
 {
     let visits = best.visits as usize;
     if count <= visits {
-        return Searched::Stopped;
+        return stopped();
     }
-    let p = points::point_at(positions, node);
-    let v = coord(p, axis);
-    let go_left = left_first(q, p, axis);
-    let next = next_axis(axis);
+    let v = along(positions, node, axis);
+    let go_left = left_first(q, axis, v);
+    let next = turn_axis(axis);
     let here = Best {
         dist: best.dist,
         place: best.place,
         visits: best.visits + 1,
     };
-    let nearer = pick(go_left, left, right, node);
+    let l = link_at(left, node);
+    let r = link_at(right, node);
+    let nearer = either(go_left, l, r);
+    let farther = either(go_left, r, l);
     let after = match link_of(count, node, nearer) {
-        Link::Gone => Searched::Found(here),
+        Link::Gone => here,
         Link::To(n) => {
             let side = nearer_box(rect, axis, v, go_left);
-            nearest_rec(positions, left, right, count, q, side, n, next, here)
+            copied(nearest_rec(
+                positions,
+                left,
+                right,
+                count,
+                q,
+                side,
+                n,
+                next,
+                copied(here),
+            ))
         }
-        Link::Bad => Searched::Stopped,
+        Link::Bad => stopped(),
     };
-    let Searched::Found(t) = after else {
-        return Searched::Stopped;
-    };
-    let p2 = points::point_at(positions, node);
-    let v2 = coord(p2, axis);
-    let best2 = better(node as u16, points::dist_sq(p2, q), t);
-    let farther = pick(go_left, right, left, node);
+    if after.visits == 65535 {
+        return stopped();
+    }
+    let d = points::dist_sq(points::point_at(positions, node), query_point(q));
+    let best2 = better(node as u16, d, after);
     match link_of(count, node, farther) {
-        Link::Gone => Searched::Found(best2),
-        Link::Bad => Searched::Stopped,
+        Link::Gone => best2,
+        Link::Bad => stopped(),
         Link::To(n) => {
-            let side = farther_box(rect, axis, v2, go_left);
-            if side.dist_sq(q) < best2.dist {
-                nearest_rec(positions, left, right, count, q, side, n, next, best2)
+            if may_hold(rect, axis, v, go_left, q, best2.dist) {
+                let side = farther_box(rect, axis, v, go_left);
+                copied(nearest_rec(
+                    positions,
+                    left,
+                    right,
+                    count,
+                    q,
+                    side,
+                    n,
+                    next,
+                    copied(best2),
+                ))
             } else {
-                Searched::Found(best2)
+                best2
             }
         }
     }
@@ -322,7 +427,12 @@ pub fn nearest_place(
         place: 0,
         visits: 0,
     };
-    nearest_rec(positions, left, right, count, q, bounds, 0, 0, start)
+    let query = [q.x, q.y, q.z];
+    let best = nearest_rec(positions, left, right, count, &query, bounds, 0, 0, start);
+    if best.visits == 65535 {
+        return Searched::Stopped;
+    }
+    Searched::Found(best)
 }
 
 pub enum Named {

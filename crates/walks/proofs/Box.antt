@@ -15,6 +15,7 @@ use Rattle.floats.proofs.Cross.{of-taken, of-left}
 use Rattle.floats.proofs.Preorder.{number, le-trans-f, lt→le, le→not-lt, not-lt→le, not-lt-trans, lt-irrefl-f, lt-trans-f}
 use Rattle.floats.proofs.Sign.{nonneg}
 use Rattle.floats.proofs.Ops.{nonneg-number, add-nonneg, add-mono, add-grows, zero-plus}
+use Rattle.kdtree.proofs.Outside.{Told, it-is, it-is-not, told, outside-below, outside-above, outside-within, outside-nonneg}
 use Rattle.points.proofs.Gap.{Fair, sq-fair, add-fair, add-nan-l, add-nan-r, gap-comm, gap-outside, gap-below, gap-above}
 
 abbrev zero : Float
@@ -28,38 +29,6 @@ pub record Inside (b : BoundingBox) (p : Point3) : Type 0 where
   pub on-x : Between (b .«min_x») (b .«max_x») (p .x)
   pub on-y : Between (b .«min_y») (b .«max_y») (p .y)
   pub on-z : Between (b .«min_z») (b .«max_z») (p .z)
-
--- ---- one axis of a box's distance, in each of its three cases
-module _ (r lo hi p : Float) where
-  outside-below : lt p lo ≡ true → outside r lo hi p ≡ add binary32 r (gap lo p)
-  unfolding outside
-  outside-below h = simp h
-
-  outside-above : lt p lo ≡ false → lt hi p ≡ true → outside r lo hi p ≡ add binary32 r (gap hi p)
-  unfolding outside
-  outside-above h k = simp (h, k)
-
-  outside-within : lt p lo ≡ false → lt hi p ≡ false → outside r lo hi p ≡ r
-  unfolding outside
-  outside-within h k = simp (h, k)
-
--- a test, with what it says of itself
-data Told (b : Bool) : Type 0 where
-  it-is : b ≡ true → Told b
-  it-is-not : b ≡ false → Told b
-
-told : (b : Bool) → Told b
-told true = it-is refl
-told false = it-is-not refl
-
-pub outside-nonneg : (r lo hi p : Float) → T (nonneg r) → T (nonneg (outside r lo hi p))
-outside-nonneg r lo hi p R = go (told (lt p lo)) (told (lt hi p))
-  where
-    go : Told (lt p lo) → Told (lt hi p) → T (nonneg (outside r lo hi p))
-    go (it-is a) u = subst (λ (z : Float). T (nonneg z)) (sym (outside-below r lo hi p a)) (add-nonneg binary32 r (gap lo p) R (gap-outside p lo (of-taken a)))
-    go (it-is-not a) (it-is b) =
-        subst (λ (z : Float). T (nonneg z)) (sym (outside-above r lo hi p a b)) (add-nonneg binary32 r (gap hi p) R (subst (λ (z : Float). T (nonneg z)) (gap-comm p hi) (gap-outside hi p (of-taken b))))
-    go (it-is-not a) (it-is-not b) = subst (λ (z : Float). T (nonneg z)) (sym (outside-within r lo hi p a b)) R
 
 -- a box's distance is never `nan`, whatever the box and the query are
 pub box-nonneg : (b : BoundingBox) (p : Point3) → T (nonneg (boxDistSq b p))

@@ -1,7 +1,10 @@
-use mathlib.Core.Path.{_≡_}
+use mathlib.Core.Path.{_≡_, sym, _∙_}
 use Prim.Native.Nat.{ℕ, _-_, _≤_}
 use native.Mathlib.Omega.{arith}
+use denote.Ref.{now}
+use Rattle.points.specs.Points.{pointAt}
 use Rattle.kdtree.specs.Nearest.{placeOf, startOf}
+use Rattle.kdtree.proofs.Sides as sides
 use borrow.Author.Needs.{needs}
 use Rattle.kdtree.proofs.nearest_place.Statement.{statement}
 use Rattle.kdtree.proofs.nearest_place.Tie as tie
@@ -16,9 +19,21 @@ nearest-rec-requires : tie.Need-nearest-rec-requires
 nearest-rec-requires c κs = search needs
 
 returns : tie.Need-returns
-unfolding placeOf startOf
-returns c = let n = c .before .before .before .before .before .before .args .count in let h : n - 0 ≤ n = omega arith in let e = c .nearest-rec .ensures n h in cc
+unfolding placeOf startOf pointAt
+returns c =
+    let n = c .before .before .before .before .before .before .before .before .before .args .count in
+    let h : n - 0 ≤ n = omega arith in
+    let e = sym (sides.said-stopped _ (c .if1 .taken)) ∙ c .before .before .nearest-rec .ensures n h in
+    cc
+
+returns-2 : tie.Need-returns-2
+unfolding placeOf startOf pointAt
+returns-2 c =
+    let n = c .before .before .before .before .before .before .before .before .before .args .count in
+    let h : n - 0 ≤ n = omega arith in
+    let e = sym (sides.said-found _ (c .if1 .left)) ∙ c .before .before .nearest-rec .ensures n h in
+    cc
 
 pub nearest-place-spec : {M : Type 1} → statement M
 nearest-place-spec =
-    tie.close (tie.spec point-at-requires dist-sq-requires nearest-rec-requires returns)
+    tie.close (tie.spec point-at-requires dist-sq-requires nearest-rec-requires returns returns-2)

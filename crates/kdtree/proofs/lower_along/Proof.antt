@@ -1,0 +1,18 @@
+use mathlib.Core.Path.{sym}
+use Rattle.kdtree.specs.Geometry.{byAxis, byAxis-else}
+use Rattle.kdtree.proofs.lower_along.Statement.{statement}
+use Rattle.kdtree.proofs.lower_along.Tie as tie
+
+returns : tie.Need-returns
+unfolding byAxis
+returns c = rw (c .match .keys1)
+
+returns-2 : tie.Need-returns-2
+unfolding byAxis
+returns-2 c = rw (c .match .keys2)
+
+returns-3 : tie.Need-returns-3
+returns-3 c = sym (byAxis-else _ _ _ _ (c .match .rest .0 .1) (c .match .rest .1))
+
+pub lower-along-spec : {M : Type 1} → statement M
+lower-along-spec = tie.close (tie.spec returns returns-2 returns-3)
