@@ -8,6 +8,8 @@
 #[allow(dead_code)]
 mod port;
 mod measure;
+#[cfg(mysofa)]
+mod mysofa;
 mod plot;
 mod report;
 mod rows;

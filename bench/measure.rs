@@ -23,7 +23,7 @@ unsafe extern "C" {
 /// The least and the median time of a call of each side, in nanoseconds: row, side, least, median.
 pub fn time(path: &str, only: &str) {
     let mut file = File::create(path).expect("a file for the times");
-    rows::each(only.is_empty(), only, &mut |row: &mut Row| {
+    rows::each(true, only.is_empty(), only, &mut |row: &mut Row| {
         let mut times: Vec<Vec<f64>> = row.sides.iter().map(|_| Vec::new()).collect();
         for _ in 0..row.rounds {
             for ((_, run), times) in row.sides.iter_mut().zip(&mut times) {
@@ -43,7 +43,7 @@ pub fn time(path: &str, only: &str) {
 
 /// Under callgrind each side's batch ends in a dump that is called ROW|SIDE|CALLS.
 pub fn count(only: &str) {
-    rows::each(false, only, &mut |row: &mut Row| {
+    rows::each(false, false, only, &mut |row: &mut Row| {
         for (side, run) in &mut row.sides {
             let name = CString::new(format!("{}|{side}|{}", row.name, row.calls)).unwrap();
             run();

@@ -7,8 +7,8 @@ use crate::port;
 use crate::sets::{self, Random, Set};
 use crate::sides::{Port, Redirected, Side, Unchanged};
 
-/// Taken by `time` and `count`; only a timed run takes the rows that are there to show how cost grows.
-pub fn each(timed: bool, only: &str, take: &mut dyn FnMut(&mut Row)) {
+/// Taken by `time` and `count`. A counted run, many times slower, keeps to the smallest sets; only a timed one takes the rows that show how cost grows.
+pub fn each(timed: bool, whole: bool, only: &str, take: &mut dyn FnMut(&mut Row)) {
     let take: &mut dyn FnMut(&mut Row) = &mut |row: &mut Row| {
         if row.name.contains(only) {
             take(row);
@@ -16,12 +16,12 @@ pub fn each(timed: bool, only: &str, take: &mut dyn FnMut(&mut Row)) {
     };
     numbers(take);
     blend(take);
-    for m in [1000, 4000, 16384] {
+    for m in if timed { vec![1000, 4000, 16384] } else { vec![1000] } {
         for set in [sets::sphere(m), sets::grid(m)] {
             of_set(set, only, take);
         }
     }
-    if timed {
+    if whole {
         growth(take);
     }
 }
@@ -117,14 +117,18 @@ fn sides_row<'a>(name: String, calls: usize, rounds: usize, sides: &'a mut Sides
 }
 
 fn sides_of(set: &Set) -> Sides {
-    vec![("port", Box::new(Port::new(set))), ("source", Box::new(Unchanged::new(set))), ("redirected", Box::new(Redirected::new(set)))]
+    #[allow(unused_mut)]
+    let mut sides: Sides = vec![("port", Box::new(Port::new(set))), ("source", Box::new(Unchanged::new(set))), ("redirected", Box::new(Redirected::new(set)))];
+    #[cfg(mysofa)]
+    sides.push(("libmysofa", Box::new(crate::mysofa::Mysofa::new(set))));
+    sides
 }
 
 /// The port and the redirected source answer alike, or the times would compare different work.
 fn agree(set: &Set, sides: &mut Sides, queries: &[[f32; 3]]) {
     for q in queries {
         let mut told = Vec::new();
-        for (name, side) in sides.iter_mut().filter(|(name, _)| *name != "source") {
+        for (name, side) in sides.iter_mut().filter(|(name, _)| ["port", "redirected"].contains(name)) {
             side.filter(*q);
             let bits: Vec<u32> = side.out().0.iter().chain(side.out().1).map(|v| v.to_bits()).collect();
             told.push((*name, side.find(*q), bits));
@@ -173,8 +177,11 @@ fn growth(take: &mut dyn FnMut(&mut Row)) {
         for set in [sets::sphere(m), sets::chain(m)] {
             let label = format!("{} M={m}", set.name);
             let mut sides = sides_of(&set);
-            let rounds = if set.name == "chain" { 3 } else { 3 + 12000 / m };
-            take(&mut sides_row(format!("growth load {label}"), 1, rounds, &mut sides, |s| s.load()));
+            let rounds = if set.name == "chain" { 2 } else { 3 + 12000 / m };
+            // a load of a chain asks each place for all: past 4096 it takes many seconds on every side
+            if set.name == "sphere" || m <= 4096 {
+                take(&mut sides_row(format!("growth load {label}"), 1, rounds, &mut sides, |s| s.load()));
+            }
             take(&mut sides_row(format!("growth find {label}"), 64, 100, &mut sides, |s| {
                 for q in &queries {
                     black_box(s.find(*q));
