@@ -1,7 +1,8 @@
-//! bench: the port beside the source, in one process and one run. `bench/run` builds it and calls it three times:
+//! bench: the port beside the source, in one process and one run. `bench/run` builds it and calls it:
 //!
 //! bench time FILE: every row, its sides in turn, many short runs; the least and the median of each side
-//! bench count DIR: the same batches once each, to be run under callgrind, which writes a file for each into DIR
+//! bench count: the same batches once each, to be run under callgrind, which writes a file for each
+//! bench stack: what a search takes of it
 //! bench report TIMES DIR FACTS: docs/SPEED.md and docs/speed.svg of what the two found
 
 #[path = "../oracle/port.rs"]
@@ -15,17 +16,19 @@ mod report;
 mod rows;
 mod sets;
 mod sides;
+mod stack;
 
 /// Deep chains: the source inserts, searches and frees its boxes by recursion.
 const STACK: usize = 1 << 30;
 
 fn work(words: &[String]) {
-    let word = |i: usize| words.get(i).expect("bench time FILE | count DIR | report TIMES DIR FACTS").as_str();
+    let word = |i: usize| words.get(i).expect("bench time FILE [WORD] | count [WORD] | stack | report TIMES DIR FACTS").as_str();
     match word(0) {
         "time" => measure::time(word(1), words.get(2).map_or("", |w| w)),
         "count" => measure::count(words.get(1).map_or("", |w| w)),
+        "stack" => stack::tell(),
         "report" => report::write(word(1), word(2), word(3)),
-        _ => panic!("bench time FILE | count DIR | report TIMES DIR FACTS"),
+        _ => panic!("bench time FILE [WORD] | count [WORD] | stack | report TIMES DIR FACTS"),
     }
 }
 

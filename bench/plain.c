@@ -43,6 +43,25 @@ void c_arctangents(const float *y, const float *x, float *r, size_t n)
         r[i] = f(y[i], x[i]);
 }
 
+/* How deep the stack was used between the two, both called from one function: the paint that is gone. */
+enum { ROOM = 12 << 20, PAINT = 0xa5 };
+
+__attribute__((noinline)) void stack_paint(void)
+{
+    volatile unsigned char room[ROOM];
+    for (size_t i = 0; i < ROOM; i++)
+        room[i] = PAINT;
+}
+
+__attribute__((noinline)) size_t stack_used(void)
+{
+    volatile unsigned char room[ROOM];
+    size_t i = 0;
+    while (i < ROOM && room[i] == PAINT)
+        i++;
+    return ROOM - i;
+}
+
 #ifdef HAVE_CALLGRIND
 #include <valgrind/callgrind.h>
 void count_from(void)
