@@ -4,10 +4,11 @@
     tests/second_reading.py < TEXT          prints the output
     tests/second_reading.py FILE            compares with the stored outputs of FILE: a name, a text and its output in turn, each ended by a `#`
 
-Each operation is rounded to binary32 from binary64, which gives the one rounding that IEEE 754 asks for. Sine, cosine and arctangent are rounded from
-binary64 too, so they can differ from the program's in the last bit: a set whose neighbours hang on that bit is not for this reading.
+Each operation is rounded to binary32 from binary64, which gives the one rounding that IEEE 754 asks for. Sine, cosine and arctangent are the C library's:
+the program answers the bits of the one for x86-64, and where another's last bit differs, a set whose answers hang on it is not for this reading.
 """
 import ctypes
+import ctypes.util
 import math
 import re
 import struct
@@ -26,6 +27,12 @@ class Refused(Exception):
 
 def f32(x):
     return ctypes.c_float(x).value
+
+
+LIBRARY = ctypes.CDLL(ctypes.util.find_library("m"))
+sine, cosine, arctangent = LIBRARY.sinf, LIBRARY.cosf, LIBRARY.atan2f
+for call, count in ((sine, 1), (cosine, 1), (arctangent, 2)):
+    call.restype, call.argtypes = ctypes.c_float, [ctypes.c_float] * count
 
 
 def value(digits):
@@ -174,14 +181,14 @@ def radius(p):
 def to_spherical(p):
     x, y, z = p
     flat = f32(math.sqrt(f32(f32(x * x) + f32(y * y))))
-    azimuth = f32(f32(f32(math.atan2(y, x)) * TO_DEGREES) + 360)
-    return f32(math.fmod(azimuth, 360)), f32(f32(math.atan2(z, flat)) * TO_DEGREES), radius(p)
+    azimuth = f32(f32(arctangent(y, x) * TO_DEGREES) + 360)
+    return f32(math.fmod(azimuth, 360)), f32(arctangent(z, flat) * TO_DEGREES), radius(p)
 
 
 def to_cartesian(p):
     phi, theta = f32(p[0] * TO_RADIANS), f32(p[1] * TO_RADIANS)
-    flat = f32(f32(math.cos(theta)) * p[2])
-    return f32(f32(math.cos(phi)) * flat), f32(f32(math.sin(phi)) * flat), f32(f32(math.sin(theta)) * p[2])
+    flat = f32(cosine(theta) * p[2])
+    return f32(cosine(phi) * flat), f32(sine(phi) * flat), f32(sine(theta) * p[2])
 
 
 class Loaded:

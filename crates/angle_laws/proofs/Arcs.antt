@@ -14,10 +14,10 @@ use Rattle.angle_laws.specs.Angle.{S, C, sine, cosine, Ratio}
 use Rattle.angle_laws.specs.Asked.{IsArc, plusPositive}
 use Rattle.angle_laws.proofs.Out.{Out, angle-out, place}
 use Rattle.angle_laws.proofs.Line.{Line, flat, steep, eighth-lt}
-use Rattle.angles.specs.Steps.{dist, xor, seek}
+use Rattle.sines.specs.Steps.{dist, xor, seek}
 use Rattle.angles.specs.Arc.{minusSize, ratioOf, angleOf, eighthOf, arcSteps}
 use Rattle.angles.proofs.Ratio.{half-turn, Quotient, quotient}
-use Rattle.angles.specs.Sines.{plusZero}
+use Rattle.sines.specs.Sines.{plusZero}
 use Rattle.angles.proofs.Seek.{sought}
 
 -- ---- from the line to the float

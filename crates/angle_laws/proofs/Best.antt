@@ -14,7 +14,7 @@ use Rattle.bits.specs.Parts.{places}
 use Rattle.angles.proofs.Cert.{top-of, body}
 use Rattle.angle_laws.specs.Angle.{C, Ratio, S, sine, cosine}
 use Rattle.angle_laws.proofs.Placed.{placed}
-use Rattle.angles.specs.Sines.{plusZero}
+use Rattle.sines.specs.Sines.{plusZero}
 use Rattle.angles.specs.Arc.{pi32, magf, certOf, gridTest, ratioOf, arcSteps, bestSteps}
 use Rattle.angle_laws.specs.Asked.{IsArc}
 use Rattle.angles.proofs.Ratio.{Slope, half-turn, Quotient, quotient}

@@ -8,8 +8,8 @@ use lib.Ieee.Bits.{is-false}
 use lib.IntN.{ℤ}
 use lib.Ieee.{Float, nan, inf, fin, binary32, up, down, lt, fits}
 use lib.Ieee.Fits.{down-pos}
-use Rattle.angles.specs.Sines.{small, plusZero, inRange, absf}
-use Rattle.angles.proofs.Range.{not-lt, range-hi, no-nan, no-inf}
+use Rattle.sines.specs.Sines.{small, plusZero, inRange, absf}
+use Rattle.sines.proofs.Range.{not-lt, range-hi, no-nan, no-inf}
 
 fits-sign : (s : Bool) (m : ℕ) (e : ℤ) → T (fits binary32 (fin s m e)) → T (fits binary32 (fin false m e))
 unfolding fits

@@ -8,14 +8,14 @@ use mathlib.Core.Path.{_≡_, refl, sym, ap, _∙_, subst, subst₂}
 use Rattle.angle_laws.proofs.Parts.{prod-low, prod-high, Angle}
 use Rattle.angle_laws.proofs.Fixed.{Near, near-sin, near-cos}
 use Rattle.angles.proofs.Ratio.{Slope}
-use Rattle.angles.specs.Steps.{dist, xor, sinFix, cosFix, scan, rest}
+use Rattle.sines.specs.Steps.{dist, xor, sinFix, cosFix, scan, rest}
 use Rattle.angles.specs.Arc.{minusSize, plusOver, lineTest, turnTest, gridTest}
 use Rattle.angle_laws.specs.Asked.{plusPositive}
 use Rattle.angle_laws.specs.Angle.{Ratio, pickS, pickC, piBot, restTop, restBot, sine, cosine}
 use Rattle.angle_laws.proofs.Line.{Line, sin-bot-pos, cos-bot-pos, sine-at, cosine-at}
 use Rattle.angle_laws.specs.Series.{sinTop, sinBot, cosTop, cosBot}
-use Rattle.angles.proofs.Bounds.{sin-fix-le, cos-fix-le}
-use Rattle.angles.specs.Sines.{half, odd}
+use Rattle.sines.proofs.Bounds.{sin-fix-le, cos-fix-le}
+use Rattle.sines.specs.Sines.{half, odd}
 use Rattle.angle_laws.proofs.Reduce.{Reduced}
 
 -- ---- a product of two fixed-point numbers u, over W, near a: in units of 2^-62

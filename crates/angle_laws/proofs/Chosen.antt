@@ -9,9 +9,9 @@ use lib.IntN.{ℤ}
 use lib.Ieee.{Float, fin, binary32, up, down, fits}
 use lib.Ieee.Fits.{down-pos}
 use Rattle.bits.specs.Parts.{places}
-use Rattle.angles.specs.Steps.{xor, scan}
-use Rattle.angles.specs.Sines.{half, odd, restOf, sinPoly, cosPoly, sinValue, sinMinus, cosValue, cosMinus, single, sinFrom, cosFrom}
-use Rattle.angles.proofs.Scan.{found}
+use Rattle.sines.specs.Steps.{xor, scan}
+use Rattle.sines.specs.Sines.{half, odd, restOf, sinPoly, cosPoly, sinValue, sinMinus, cosValue, cosMinus, single, sinFrom, cosFrom}
+use Rattle.sines.proofs.Scan.{found}
 use Rattle.angle_laws.specs.Series.{sinTop, sinBot, cosTop, cosBot}
 use Rattle.angle_laws.specs.Angle.{turn, restTop, restBot, restNeg, pickS, pickC, sine, cosine, within}
 use Rattle.angle_laws.proofs.Nested.{sin-nested, cos-nested, sin-bot, cos-bot, top-le}

@@ -4,9 +4,9 @@ use native.Mathlib.Omega.{arith}
 use mathlib.Core.Path.{refl, sym, subst₂}
 use native.Mathlib.Nat.{mul-le-mul-left, mul-le-mul-right, div-mul-le-self}
 use lib.Dec.{lit<}
-use Rattle.angles.specs.Steps as steps
+use Rattle.sines.specs.Steps as steps
 use Rattle.angle_laws.specs.Series.{sinTop, sinBot, cosTop, cosBot, bot, top}
-use Rattle.angles.specs.Steps.{nest, sinDivs, cosDivs, sinFix, cosFix}
+use Rattle.sines.specs.Steps.{nest, sinDivs, cosDivs, sinFix, cosFix}
 use Rattle.angle_laws.proofs.Horner.{Square, Close, nested}
 use Rattle.angle_laws.proofs.Parts.{Angle, Sine, square, product}
 use Rattle.angle_laws.proofs.Nested.{sin-nested, cos-nested, sin-bot, cos-bot}

@@ -11,7 +11,7 @@ use lib.Dec.{leb, leb→le}
 use lib.Ieee.Fits.{and-l, and-r}
 use lib.Dec as dec
 use Rattle.angle_laws.specs.Series.{bot, top}
-use Rattle.angles.specs.Steps.{nest}
+use Rattle.sines.specs.Steps.{nest}
 
 -- ---- a / P / c, as bounds
 pub div-low : (a P c : ℕ) → a / P / c * c * P ≤ a

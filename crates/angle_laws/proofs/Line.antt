@@ -6,9 +6,9 @@ use lib.Dec.{lit<}
 use mathlib.Core.Bool.{Bool, true, false}
 use native.Mathlib.Omega.{arith}
 use Rattle.angle_laws.specs.Series.{sinBot, fact, cosBot, sinTop, cosTop}
-use Rattle.angles.specs.Steps.{dist, xor, seek}
+use Rattle.sines.specs.Steps.{dist, xor, seek}
 use Rattle.angle_laws.specs.Angle.{turn, restTop, restBot, restNeg, pickS, sine, pickC, cosine, piBot, Ratio}
-use Rattle.angles.specs.Sines.{half, odd}
+use Rattle.sines.specs.Sines.{half, odd}
 use Rattle.angle_laws.proofs.Reduce.{Reduced}
 use Rattle.angle_laws.proofs.Out.{place}
 use Rattle.angles.proofs.Seek.{sought}

@@ -5,7 +5,7 @@ use Prim.Native.Nat.{_*_}
 use lib.Dec.{T}
 use lib.Ieee.{Float, binary32, up, down, lt, fits}
 use lib.Ieee.Fits.{down-pos}
-use Rattle.angles.specs.Sines.{plusZero, one, small, inRange, absf, sinFrom, cosFrom, sineSteps, cosineSteps}
+use Rattle.sines.specs.Sines.{plusZero, one, small, inRange, absf, sinFrom, cosFrom, sineSteps, cosineSteps}
 use Rattle.angle_laws.specs.Angle.{S, C, sine, cosine, within}
 use Rattle.angle_laws.proofs.Cases.{large, little}
 use Rattle.angle_laws.proofs.Chosen.{sin-from, cos-from}

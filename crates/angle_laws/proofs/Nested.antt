@@ -8,7 +8,7 @@ use native.Mathlib.Omega.{arith}
 use lib.Ieee.Fits.{and-l, and-r}
 use Rattle.angle_laws.specs.Series.{bot, top, fact, term, sinTop, sinBot, cosTop, cosBot}
 use Rattle.angle_laws.proofs.Horner.{twos}
-use Rattle.angles.specs.Steps.{sinDivs, cosDivs}
+use Rattle.sines.specs.Steps.{sinDivs, cosDivs}
 
 -- x * x * .. , which computes at a numeral
 abbrev pub pw : ℕ → ℕ → ℕ

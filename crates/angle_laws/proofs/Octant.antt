@@ -9,8 +9,8 @@ use mathlib.Core.List.{_∷_, []}
 use mathlib.Core.Logic.{_⊎_, inl, inr}
 use Rattle.angles.proofs.Ratio.{P31, Slope}
 use Rattle.angle_laws.proofs.Fixed.{Near, near-sin, near-cos}
-use Rattle.angles.specs.Steps.{dist, nest, square, cosFix, sinFix}
-use Rattle.angles.proofs.Bounds.{nest-le, square-le, cos-fix-le}
+use Rattle.sines.specs.Steps.{dist, nest, square, cosFix, sinFix}
+use Rattle.sines.proofs.Bounds.{nest-le, square-le, cos-fix-le}
 use Rattle.angle_laws.specs.Series.{sinTop, sinBot, cosTop, cosBot}
 use Rattle.angle_laws.proofs.Parts.{Angle}
 use Rattle.angles.proofs.Seek.{Sought}

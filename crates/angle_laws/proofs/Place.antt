@@ -6,7 +6,7 @@ use native.Mathlib.Omega.{arith}
 use mathlib.Core.Bool.{Bool}
 use native.Mathlib.Nat.{mul-le-mul-right}
 use lib.Dec.{lit≤}
-use Rattle.angles.specs.Steps.{bound, rest}
+use Rattle.sines.specs.Steps.{bound, rest}
 use Rattle.angle_laws.proofs.Out.{place}
 use Rattle.angle_laws.proofs.Reduce.{Reduced, reduced}
 use Rattle.angle_laws.proofs.Parts.{Angle}

@@ -10,8 +10,8 @@ use lib.Ieee.{fin, binary32, up, down, fits}
 use lib.Ieee.Fits.{down-pos}
 use lib.Ieee.Nearest.{div-same}
 use Rattle.bits.specs.Parts.{places}
-use Rattle.angles.specs.Steps.{scan}
-use Rattle.angles.proofs.Scan.{found, scan-stop}
+use Rattle.sines.specs.Steps.{scan}
+use Rattle.sines.proofs.Scan.{found, scan-stop}
 use Rattle.angle_laws.specs.Angle.{piBot}
 use Rattle.angle_laws.proofs.Parts.{Angle}
 use Rattle.angle_laws.proofs.Small.{k0, rest0, sign0, proper0, under0}

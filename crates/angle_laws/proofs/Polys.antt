@@ -11,7 +11,7 @@ use lib.Ieee.Fits.{mul-fits}
 use Rattle.floats.proofs.Ratio.{mul-shrinks}
 use Rattle.floats.proofs.Cross.{cross→le, le→cross}
 use Rattle.floats.proofs.Preorder.{le-trans-f}
-use Rattle.angles.specs.Sines.{one, num, plus, less, times, sinPoly, cosPoly}
+use Rattle.sines.specs.Sines.{one, num, plus, less, times, sinPoly, cosPoly}
 use Rattle.angle_laws.specs.Series.{fact, sinTop, sinBot, cosTop, cosBot}
 use Rattle.angle_laws.proofs.Nested.{pw, pw-is}
 use Rattle.angle_laws.proofs.About.{K, About, about-mul, about-add, about-sub, about-le, about-same, about-shift}

@@ -7,10 +7,10 @@ use native.Mathlib.Omega.{arith}
 use mathlib.Core.Bool.{Bool, true, false, cond, not}
 use mathlib.Core.Logic.{_⊎_, inl, inr}
 use Rattle.angle_laws.specs.Angle.{piTop, piBot, quarters, restTop, restBot}
-use Rattle.angles.specs.Steps.{bound, base, dist, rest, Q58}
+use Rattle.sines.specs.Steps.{bound, base, dist, rest, Q58}
 use Rattle.angle_laws.proofs.Below.{at}
 use Rattle.angle_laws.proofs.Parts.{Angle}
-use Rattle.angles.specs.Sines.{half, odd}
+use Rattle.sines.specs.Sines.{half, odd}
 use Rattle.angles.proofs.Sides.{test-true, test-false}
 
 -- ---- the constants: j π / 4 in units of 2^-40 lies strictly between `bound j` and one more, and in units of 2^-48 within two of `base j`

@@ -13,8 +13,8 @@ use lib.Ieee.Fits.{down-pos, round-fits}
 use lib.Ieee.Back.{round-whole}
 use lib.Ieee.Exact.{HasValue}
 use Rattle.floats.proofs.Sign.{round-neg}
-use Rattle.angles.specs.Steps.{dist, even}
-use Rattle.angles.specs.Sines.{half, absf, num, times, sinPoly, cosPoly, restOf}
+use Rattle.sines.specs.Steps.{dist, even}
+use Rattle.sines.specs.Sines.{half, absf, num, times, sinPoly, cosPoly, restOf}
 use Rattle.angles.proofs.Sides.{lt-zero, zero-lt}
 use Rattle.angle_laws.specs.Angle.{piTop, piBot, restTop, restBot}
 use Rattle.angle_laws.proofs.About.{K, About, about-round, about-same}

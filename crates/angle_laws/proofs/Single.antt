@@ -13,10 +13,10 @@ use lib.Ieee.Exact.{HasValue}
 use lib.Ieee.Scale.{grid}
 use Rattle.floats.proofs.Sign.{round-neg}
 use Rattle.bits.specs.Parts.{narrowed}
-use Rattle.angles.specs.Steps.{dist}
-use Rattle.angles.specs.Sines.{plusZero, single}
+use Rattle.sines.specs.Steps.{dist}
+use Rattle.sines.specs.Sines.{plusZero, single}
 use Rattle.angles.proofs.Rounding.{Off, grid-off, rounded}
-use Rattle.angles.proofs.Range.{not-lt}
+use Rattle.sines.proofs.Range.{not-lt}
 use Rattle.angles.proofs.Sides.{le-false}
 use Rattle.angle_laws.specs.Angle.{Ratio, within}
 use Rattle.angle_laws.proofs.About.{K, About, chain-low, chain-high}

@@ -7,7 +7,7 @@ use mathlib.Core.Bool.{Bool, true, false}
 use mathlib.Core.List.{List, _∷_, []}
 use lib.Dec.{ltb, lit<, lit≤}
 use lib.Ieee.{fin}
-use Rattle.angles.specs.Steps.{dist, sinDivs, cosDivs, xor}
+use Rattle.sines.specs.Steps.{dist, sinDivs, cosDivs, xor}
 use Rattle.angle_laws.specs.Series.{sinTop, sinBot, cosTop, cosBot, bot, top}
 use Rattle.angle_laws.specs.Angle.{Ratio, piTop, piBot, turn, quarters, restTop, restBot, restNeg, pickS, pickC, sine, cosine, apart}
 use Rattle.angle_laws.proofs.Nested.{sin-nested, cos-nested, sin-bot, cos-bot, top-sum, top-le}

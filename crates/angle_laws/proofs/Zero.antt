@@ -9,14 +9,14 @@ use lib.Ieee.{neg, fin, up, down, binary32, div, lt, eq, Float, nan, inf}
 use lib.IntN.{ℤ}
 use lib.Ieee.Fits.{down-pos, up-pos}
 use lib.Ieee.Scale.{finite}
-use Rattle.angles.specs.Steps.{dist, xor}
+use Rattle.sines.specs.Steps.{dist, xor}
 use Rattle.angles.specs.Arc.{minusSize, pi32, behindOf, bestSteps, arctanSteps}
 use Rattle.angle_laws.specs.Asked.{plusPositive, IsArc, Arctan}
 use Rattle.angle_laws.specs.Series.{sinTop, sinBot, cosTop, cosBot}
 use Rattle.angle_laws.specs.Angle.{sine, cosine, Ratio, S, C, pickS, pickC, piBot, turn}
 use Rattle.angle_laws.proofs.Small.{sine-small, cosine-small, sine-is, cosine-is}
 use Rattle.angle_laws.proofs.Line.{sin-bot-pos, cos-bot-pos}
-use Rattle.angles.specs.Sines.{plusZero, one}
+use Rattle.sines.specs.Sines.{plusZero, one}
 use Rattle.angles.proofs.Sides.{lt-zero, zero-lt, is-zero, not-zero}
 use Rattle.angle_laws.proofs.Best.{best-good}
 use Rattle.angle_laws.proofs.Arcs.{arc-good}

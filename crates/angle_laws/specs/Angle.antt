@@ -3,7 +3,7 @@ use Prim.Native.Nat.{ℕ, _+_, _-_, _*_, _/_, _%_, zero, suc, _≤_}
 use mathlib.Core.Bool.{Bool, cond, true, false, not, Bool·beq}
 use lib.Dec.{ltb}
 use lib.Ieee.{Float, nan, inf, fin, up, down}
-use Rattle.angles.specs.Steps.{dist, xor}
+use Rattle.sines.specs.Steps.{dist, xor}
 use Rattle.angle_laws.specs.Series.{sinTop, sinBot, cosTop, cosBot}
 
 -- ± top / bot

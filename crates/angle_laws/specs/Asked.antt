@@ -5,7 +5,7 @@ use lib.Ieee.{neg, Float, nan, inf, fin, up, down}
 use mathlib.Core.Path.{_≡_}
 use Rattle.angles.specs.Arc.{minusSize, pi32}
 use Rattle.angle_laws.specs.Angle.{Ratio, S, C}
-use Rattle.angles.specs.Steps.{xor}
+use Rattle.sines.specs.Steps.{xor}
 
 -- ± u + ± v > 0
 abbrev pub plusPositive : Bool → ℕ → Bool → ℕ → Type 0

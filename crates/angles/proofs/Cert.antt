@@ -10,8 +10,8 @@ use native.Mathlib.Nat.{le-trans, le-of-mul-le-mul-right, div-mul-le-self, zero-
 use lib.Ieee.Fits.{down-pos}
 use lib.Ieee.Scale.{finite}
 use Rattle.bits.specs.Parts.{places}
-use Rattle.angles.specs.Sines.{plusZero}
-use Rattle.angles.proofs.Range.{at-most}
+use Rattle.sines.specs.Sines.{plusZero}
+use Rattle.sines.proofs.Range.{at-most}
 use Rattle.angles.proofs.Sides.{lt-zero, mag-zero, mag-pos}
 use Rattle.angles.specs.Arc.{pi32, gridTest, certOf, ratioOf, arcSteps, magf, bestSteps}
 use Rattle.angles.specs.Guess.{arcGuess}
@@ -50,9 +50,6 @@ fixed-asks (fin true zero e) h k = (tt, places-le (0 * up e) (down e) (down-pos 
     none u d = omega arith
 fixed-asks (fin true (suc m) e) h k = absurd (subst (λ (b : Bool). T (not b)) (lt-zero true (suc m) e (zero-lt-suc m)) h)
 fixed-asks (fin false m e) h k = (tt, places-le (m * up e) (down e) (down-pos e) (top-of m e k))
-
-pub below-word : (n : ℕ) → n ≤ 17592186044416 → n < 18446744073709551616
-below-word n h = omega arith
 
 pub cert-yes : (back : Bool) (py px : ℕ) (c : Float) (X : ℕ) (r : Bool) → le c (pi32 false) ≡ true → X ≡ places 40 c → r ≡ gridTest back py px X → r ≡ certOf back py px c
 unfolding certOf

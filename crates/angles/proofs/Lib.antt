@@ -1,10 +1,6 @@
 -- What the functions' proofs cite: bounds, and the steps branch by branch.
-pub mod Bounds
-pub mod Scan
 pub mod Steps
 pub mod Rounding
-pub mod Range
-pub mod Waves
 pub mod Guessed
 pub mod Seek
 pub mod Ratio

@@ -7,7 +7,7 @@ use mathlib.Core.Bool.{Bool, true, false, not}
 use native.Mathlib.Nat.{le-trans, pow-suc, lt-irrefl, lt-of-lt-of-le, le-refl, lt-of-le-of-lt, mul-le-mul-left, mul-le-mul}
 use lib.Dec.{T, leb→le, nleb→lt, lit≤, lit<, le→leb, not-T}
 use lib.Ieee.Bits.{is-true, is-false}
-use Rattle.angles.specs.Steps.{sinFix, cosFix, fitsUnder, seek}
+use Rattle.sines.specs.Steps.{sinFix, cosFix, fitsUnder, seek}
 
 abbrev Under : ℕ → ℕ → Type 0
 Under t j = 2147483648 * sinFix (j * 1024) ≤ t * cosFix (j * 1024)

@@ -9,9 +9,9 @@ use native.Mathlib.Nat.{mul-pos, zero-lt-suc, le-trans, le-of-eq, zero-mul}
 use lib.IntN.{ℤ, pos}
 use lib.Ieee.{fin, up, down, lt, eq, nan, inf, binary32, round, div, le, Float, mul}
 use lib.Ieee.Fits.{up-pos, eq→eqb, down-pos}
-use Rattle.angles.specs.Sines.{plusZero}
+use Rattle.sines.specs.Sines.{plusZero}
 use Rattle.angles.specs.Arc.{magf, ratioOf, usable}
-use Rattle.angles.proofs.Range.{at-most, not-lt}
+use Rattle.sines.proofs.Range.{at-most, not-lt}
 use Rattle.angles.proofs.Ratio.{half-turn, Quotient, quotient}
 
 pub test-true : (a b : ℕ) → a < b → ltb a b ≡ true

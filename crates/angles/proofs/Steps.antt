@@ -8,9 +8,9 @@ use native.Mathlib.Omega.{arith}
 use lib.Dec.{leb, le→leb, T, leb→le, not-T, lit≤, lit<}
 use lib.Ieee.Bits.{is-true, is-false}
 use native.Mathlib.Nat.{lt-irrefl, lt-of-lt-of-le, le-trans, mul-le-mul, lt-of-le-of-lt}
-use Rattle.angles.specs.Sines.{plusZero}
+use Rattle.sines.specs.Sines.{plusZero}
 use Rattle.angles.specs.Arc.{magf, angleOf, unit22, eighthOf, ratioOf, arcSteps, minusSize, plusOver, lineTest, turnTest}
-use Rattle.angles.specs.Steps.{seek, xor, dist}
+use Rattle.sines.specs.Steps.{seek, xor, dist}
 
 -- ---- the arctangent's steps, case by case
 pub mag-below : (x : Float) → lt x plusZero ≡ true → neg x ≡ magf x
@@ -45,17 +45,6 @@ arc-is y x p q b s t a ep eq' eb es et ea =
   where
     body : Bool → Bool → Float → Float → Float
     body b s p q = let a = angleOf (eighthOf b (lt x plusZero)) (seek 24 (cond b (ratioOf p q) (ratioOf q p)) 0 13176795) in cond s (neg a) a
-
--- ---- the guesses, branch by branch
-pub xor-true : (a b : Bool) → a ≡ true → not b ≡ xor a b
-xor-true true true h = refl
-xor-true true false h = refl
-xor-true false b h = absurd (true≢false (sym h))
-
-pub xor-false : (a b : Bool) → a ≡ false → b ≡ xor a b
-xor-false true b h = absurd (true≢false h)
-xor-false false true h = refl
-xor-false false false h = refl
 
 -- ---- the certificate, branch by branch
 pub gap-sum : (a b d : Bool) (u v : ℕ) → d ≡ xor a b → d ≡ true → u + v ≡ minusSize a u b v

@@ -6,8 +6,8 @@ use lib.Ieee.Scale.{finite}
 use lib.IntN.{negsuc, pos}
 use lib.Dec.{leb}
 use Rattle.bits.specs.Parts.{places}
-use Rattle.angles.specs.Steps.{dist, seek, xor, scan, rest, sinFix, cosFix}
-use Rattle.angles.specs.Sines.{plusZero, one, half, odd}
+use Rattle.sines.specs.Steps.{dist, seek, xor, scan, rest, sinFix, cosFix}
+use Rattle.sines.specs.Sines.{plusZero, one, half, odd}
 use Rattle.angles.specs.Guess.{arcGuess}
 
 -- the size of ± u - ± v

@@ -1,6 +1,4 @@
 -- The words of the contracts: the exact steps of docs/ANGLES.md, and what the calls answer.
-pub mod Steps
 pub mod Guess
-pub mod Sines
 pub mod Arc
 pub mod Says

@@ -2,7 +2,7 @@
 use mathlib.Core.Bool.{cond, _&&_}
 use lib.Ieee.{Float}
 use lib.Ieee.Scale.{finite}
-use Rattle.angles.specs.Sines.{plusZero, inRange, sineSteps, cosineSteps}
+use Rattle.sines.specs.Sines.{plusZero, inRange, sineSteps, cosineSteps}
 use Rattle.angles.specs.Arc.{arctanSteps}
 use Rattle.angles.specs.declared.Answer.{Answer}
 use Rattle.angles.specs.declared.Answer.the-variants.{Value, Refused}

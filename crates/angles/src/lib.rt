@@ -1,8 +1,8 @@
 // Sine, cosine and arctangent of document 01's "Angles", by the exact steps of docs/ANGLES.md, which
 // are the C library's own.
 //
-// The sine and the cosine are polynomials in f64. The arctangent is a guess in f32, which whole
-// numbers certify; where they do not, it is found by halving. The contracts hold the steps, as
+// The steps of the sine and the cosine are crate `sines`'s. The arctangent is a guess in f32, which
+// whole numbers certify; where they do not, it is found by halving. The contracts hold the steps, as
 // definitions in specs/. That the steps meet document 01's bounds is proved in the crate
 // `angle_laws`.
 //
@@ -15,174 +15,11 @@ ghost use lib.Dec.{T};
 ghost use lib.IntN.{pos};
 ghost use lib.Ieee.{Float, fin, binary32, lt, mul, div, ofInt};
 ghost use lib.Ieee.Scale.{finite};
-ghost use Rattle.bits.specs.Parts.{places};
-ghost use Rattle.angles.specs.Steps.{xor, scan, rest, sinFix, cosFix, seek};
-ghost use Rattle.angles.specs.Sines.{plusZero, inRange, absf, restOf, sinPoly, cosPoly, sinValue, sinMinus, cosValue, cosMinus, single, sinFrom, cosFrom, sineSteps, cosineSteps};
+ghost use Rattle.sines.specs.Steps.{rest, sinFix, cosFix, seek};
+ghost use Rattle.sines.specs.Sines.{plusZero};
 ghost use Rattle.angles.specs.Guess.{tailOf, raisedOf, loweredOf, atanLow, atanHigh, atanGuess, arcGuess};
 ghost use Rattle.angles.specs.Arc.{usable, magf, ratioOf, angleOf, eighthOf, arcSteps, behindOf, minusSize, plusOver, lineTest, turnTest, gridTest, certOf, bestSteps, arctanSteps};
 ghost use Rattle.angles.specs.Says.{sinOf, cosOf, atan2Of, sineSays, cosineSays, arctanSays};
-
-// The eighth of a turn, counted from 0, in which x lies, in units of 2^-40.
-fn eighth(x: u64) -> u64
-    requires { ⌜ x ≤ 17592186044416 ⌝ }
-    ensures { λ r. ⌜ r ≡ scan 20 0 x ⌝ }
-{
-    // 4 / π is a little more than 83443 / 2^16, so this is that eighth, or now and then the one before.
-    let q = x / 16777216 * 83443 / 4294967296;
-    if x <= (q + 1) * 226375608064910088 / 262144 {
-        q
-    } else {
-        q + 1
-    }
-}
-
-fn size_of(x: f32) -> f32
-    ensures { λ r. ⌜ r ≡ absf x ⌝ }
-{
-    if x < 0.0 { -x } else { x }
-}
-
-fn size_64(x: f64) -> f64
-    ensures { λ r. ⌜ r ≡ absf x ⌝ }
-{
-    if x < 0.0 { -x } else { x }
-}
-
-// |r|: the size of a less the multiple of π/2 that belongs to the eighth q.
-fn rest_64(q: u64, a: f32) -> f64
-    requires { ⌜ q ≤ 20 ⌝ }
-    ensures { λ r. ⌜ r ≡ restOf q a ⌝ }
-{
-    let t = (q + q % 2) as u32 as f64;
-    size_64(std::num::f32_to_f64_with_nan(a) - t * 0.7853981633974483)
-}
-
-fn sin_poly(r: f64) -> f64
-    ensures { λ s. ⌜ s ≡ sinPoly r ⌝ }
-{
-    let z = r * r;
-    let c = r * z;
-    (r - c * 0.16666654943701084) + c * z * (0.008332178146138854 - z * 0.00019517298981385725)
-}
-
-fn cos_poly(r: f64) -> f64
-    ensures { λ s. ⌜ s ≡ cosPoly r ⌝ }
-{
-    let z = r * r;
-    let y = z * z;
-    ((1.0 - z * 0.49999999725108224) + y * 0.041666623324344516)
-        - y * z * (0.001388676379437604 - z * 2.4390450703564542e-05)
-}
-
-// The size of S by k mod 4, r being the size of the rest.
-fn sin_value(k: u64, r: f64) -> f64
-    ensures { λ v. ⌜ v ≡ sinValue k r ⌝ }
-{
-    match k {
-        0 => sin_poly(r),
-        1 => cos_poly(r),
-        2 => sin_poly(r),
-        _ => cos_poly(r),
-    }
-}
-
-// Whether S is below zero, by k mod 4, the rest being so where `down`.
-fn sin_minus(k: u64, down: bool) -> bool
-    ensures { λ m. ⌜ m ≡ sinMinus k down ⌝ }
-{
-    match k {
-        0 => down,
-        1 => false,
-        2 => !down,
-        _ => true,
-    }
-}
-
-// The same of C.
-fn cos_value(k: u64, r: f64) -> f64
-    ensures { λ v. ⌜ v ≡ cosValue k r ⌝ }
-{
-    match k {
-        0 => cos_poly(r),
-        1 => sin_poly(r),
-        2 => cos_poly(r),
-        _ => sin_poly(r),
-    }
-}
-
-fn cos_minus(k: u64, down: bool) -> bool
-    ensures { λ m. ⌜ m ≡ cosMinus k down ⌝ }
-{
-    match k {
-        0 => false,
-        1 => !down,
-        2 => true,
-        _ => down,
-    }
-}
-
-// v as an f32, negated where `minus`. From 2^-60 to below 2, where every size was that was met.
-fn rounded(minus: bool, v: f64) -> f32
-    ensures { λ r. ⌜ r ≡ single minus v ⌝ }
-{
-    if 8.673617379884035e-19 <= v {
-        if v < 2.0 {
-            return bits::narrow(minus, v);
-        }
-    }
-    0.0
-}
-
-fn differ(a: bool, b: bool) -> bool
-    ensures { λ r. ⌜ r ≡ xor a b ⌝ }
-{
-    if a { !b } else { b }
-}
-
-// The sine of a, from 2^-12 to 16, negated where `minus`.
-fn sin_from(minus: bool, a: f32) -> f32
-    requires { ⌜ T (finite a) × (places 40 a ≤ 17592186044416) ⌝ }
-    ensures { λ r. ⌜ r ≡ sinFrom minus a ⌝ }
-{
-    let q = eighth(bits::fixed(a, 40));
-    let k = (q + 1) / 2 % 4;
-    let v = sin_value(k, rest_64(q, a));
-    rounded(differ(minus, sin_minus(k, q % 2 != 0)), v)
-}
-
-fn cos_from(a: f32) -> f32
-    requires { ⌜ T (finite a) × (places 40 a ≤ 17592186044416) ⌝ }
-    ensures { λ r. ⌜ r ≡ cosFrom a ⌝ }
-{
-    let q = eighth(bits::fixed(a, 40));
-    let k = (q + 1) / 2 % 4;
-    let v = cos_value(k, rest_64(q, a));
-    rounded(cos_minus(k, q % 2 != 0), v)
-}
-
-// The sine of an x from -16 to 16.
-fn sin_of(x: f32) -> f32
-    requires { ⌜ T (inRange x) ⌝ }
-    ensures { λ r. ⌜ r ≡ sineSteps x ⌝ }
-{
-    let a = size_of(x);
-    if a < 0.000244140625 {
-        return x;
-    }
-    sin_from(x < 0.0, a)
-}
-
-// The cosine of an x from -16 to 16.
-fn cos_of(x: f32) -> f32
-    requires { ⌜ T (inRange x) ⌝ }
-    ensures { λ r. ⌜ r ≡ cosineSteps x ⌝ }
-{
-    let a = size_of(x);
-    if a < 0.000244140625 {
-        return 1.0;
-    }
-    cos_from(a)
-}
 
 // One level of the nested form: 1 - t / c * h, where 2^30 stands for 1.
 fn level(t: u64, h: u64, c: u64) -> u64
@@ -460,7 +297,7 @@ fn gap(a: bool, u: u64, b: bool, v: u64) -> u64
     requires { ⌜ (u ≤ 6917529027641081856) × (v ≤ 6917529027641081856) ⌝ }
     ensures { λ r. ⌜ r ≡ minusSize a u b v ⌝ }
 {
-    if differ(a, b) {
+    if sines::differ(a, b) {
         u + v
     } else {
         if u <= v { v - u } else { u - v }
@@ -492,8 +329,8 @@ fn on_line(back: bool, py: u64, px: u64, ns: bool, vs: u64, nc: bool, vc: u64) -
     requires { ⌜ (py ≤ 2147484168) × ((px ≤ 2147484168) × ((vs ≤ 2147483648) × (vc ≤ 2147483648))) ⌝ }
     ensures { λ r. ⌜ r ≡ lineTest back py px ns vs nc vc ⌝ }
 {
-    if gap(nc, py * vc, differ(back, ns), px * vs) <= 8796093022208 {
-        ahead(differ(back, nc), px * vc, ns, py * vs)
+    if gap(nc, py * vc, sines::differ(back, ns), px * vs) <= 8796093022208 {
+        ahead(sines::differ(back, nc), px * vc, ns, py * vs)
     } else {
         false
     }
@@ -517,7 +354,7 @@ fn on_grid(back: bool, py: u64, px: u64, x: u64) -> bool
     requires { ⌜ (py ≤ 2147484168) × ((px ≤ 2147484168) × (x ≤ 17592186044416)) ⌝ }
     ensures { λ r. ⌜ r ≡ gridTest back py px x ⌝ }
 {
-    let q = eighth(x);
+    let q = sines::eighth(x);
     let a = rest_of(q, x);
     on_turn(
         (q + 1) / 2 % 4,
@@ -597,23 +434,24 @@ fn atan_of(y: f32, x: f32) -> f32
     }
 }
 
-// Whether x is a number from -16 to 16.
-fn in_range(x: f32) -> bool
-    ensures { λ r. ⌜ r ≡ inRange x ⌝ }
-{
-    (-16.0 <= x) & (x <= 16.0)
-}
-
 pub fn sin(x: f32) -> f32
     ensures { λ r. ⌜ r ≡ sinOf x ⌝ }
 {
-    if in_range(x) { sin_of(x) } else { 0.0 }
+    if sines::in_range(x) {
+        sines::sin_of(x)
+    } else {
+        0.0
+    }
 }
 
 pub fn cos(x: f32) -> f32
     ensures { λ r. ⌜ r ≡ cosOf x ⌝ }
 {
-    if in_range(x) { cos_of(x) } else { 0.0 }
+    if sines::in_range(x) {
+        sines::cos_of(x)
+    } else {
+        0.0
+    }
 }
 
 pub fn atan2(y: f32, x: f32) -> f32
@@ -639,8 +477,8 @@ pub enum Answer {
 pub fn sine(x: f32) -> Answer
     ensures { λ r. ⌜ r ≡ sineSays x ⌝ }
 {
-    if in_range(x) {
-        Answer::Value(sin_of(x))
+    if sines::in_range(x) {
+        Answer::Value(sines::sin_of(x))
     } else {
         Answer::Refused(7, 0)
     }
@@ -649,8 +487,8 @@ pub fn sine(x: f32) -> Answer
 pub fn cosine(x: f32) -> Answer
     ensures { λ r. ⌜ r ≡ cosineSays x ⌝ }
 {
-    if in_range(x) {
-        Answer::Value(cos_of(x))
+    if sines::in_range(x) {
+        Answer::Value(sines::cos_of(x))
     } else {
         Answer::Refused(7, 0)
     }

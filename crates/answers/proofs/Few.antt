@@ -1,18 +1,17 @@
 -- A set that was loaded has a measurement and two ears; so its n is at most 2048, where m·r·n is at most 4096.
 -- Assumes nothing.
-use Prim.Native.Nat.{ℕ, _+_, _*_, _≤_}
-use mathlib.Core.Path.{_≡_, refl, ap, _∙_}
+use Prim.Native.Nat.{ℕ, _*_, _≤_}
+use mathlib.Core.Path.{_≡_, refl}
 use mathlib.Core.List.{List}
 use native.Mathlib.Nat.{mul-le-mul}
 use native.Mathlib.Omega.{arith}
-use lib.ListN.{length, take}
+use lib.ListN.{take}
 use lib.Ieee.{Float}
 use Rattle.limits.specs.declared.Verdict.{Verdict}
 use Rattle.limits.specs.declared.Verdict.the-variants as verdict
 use Rattle.limits.specs.Refusals.{verdictOf, loadLines}
 use Rattle.limits.proofs.Passed.{Sized, load-passed}
 use Rattle.lookup.specs.declared.Lookup.{Lookup}
-use Rattle.loads.specs.declared.Loaded.{Loaded}
 use Rattle.loads.specs.declared.Loaded.the-variants.{Ready}
 use Rattle.loads.specs.Load.{Work, Load, loadBy, loadOf, lengthsIn}
 use Rattle.settext.specs.declared.State.{State}

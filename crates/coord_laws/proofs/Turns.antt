@@ -9,8 +9,8 @@ use lib.IntN.{negsuc}
 use lib.Ieee.{Float, nan, inf, fin, binary32, fits, up, down, le}
 use lib.Ieee.Fits.{down-pos}
 use Rattle.floats.proofs.Cross.{cross→le}
-use Rattle.angles.specs.Steps.{dist, sinDivs, cosDivs}
-use Rattle.angles.specs.Sines.{plusZero, inRange, sineSteps, cosineSteps}
+use Rattle.sines.specs.Steps.{dist, sinDivs, cosDivs}
+use Rattle.sines.specs.Sines.{plusZero, inRange, sineSteps, cosineSteps}
 use Rattle.angles.specs.Says.{sinOf, cosOf}
 use Rattle.angle_laws.specs.Series.{sinTop, sinBot, cosTop, cosBot}
 use Rattle.angle_laws.specs.Angle.{Ratio, piTop, piBot, quarters, turn, restTop, restBot, restNeg, pickS, pickC, sine, cosine, S, C, within}

@@ -11,6 +11,9 @@ use lib.Ieee.{Float, ofBits, lt}
 use borrow.Author.Tests.{eqb-true, eqb-false, leb-true, eq-eqb, ne-eqb, ltb-true, le-leb, lt-leb}
 use Rattle.points.specs.declared.Point3.{Point3}
 use Rattle.floats.specs.Floats.{zero32}
+use Rattle.delays.specs.declared.Samples.{Samples}
+use Rattle.delays.specs.declared.Seconds.{Seconds}
+use Rattle.delays.specs.Delays.{secondsOf}
 use Rattle.mix.specs.declared.Share.{Share}
 use Rattle.mix.specs.declared.Points.{Points}
 use Rattle.mix.specs.Mix.{listOf, sums, tailed}
@@ -18,6 +21,10 @@ use Rattle.interpolate.specs.declared.Stride.{Stride}
 use Rattle.interpolate.specs.Blend.{delayAt, plainDelay, blendDelay, at, nowhere, strideOf, absent, known, allKnown, closer, nothing, shareOf, taken, pairOf, largest32, tiny32, close32, neighborsOf, distanceOf, pointsOf, Filter, extractOf, blendOf, refusedOf, weighedOf, interpolateOf, pick, totalOf, part}
 use Rattle.interpolate.specs.declared.Closest.{Closest}
 use Rattle.interpolate.specs.declared.Neighbors.{Neighbors}
+
+-- ---- a delay that was computed, in seconds
+pub seconds : (rate : Float) {s : Seconds} {d d' : Samples} → s ≡ secondsOf d rate → d ≡ d' → s ≡ secondsOf d' rate
+seconds rate e h = e ∙ ap (λ (x : Samples). secondsOf x rate) h
 
 -- ---- the six entries
 -- one that is not absent is a measurement

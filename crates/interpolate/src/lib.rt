@@ -50,12 +50,6 @@ pub fn distance(cartesian: &[f32], k: usize, position: Point3) -> f32
     root::root(points::dist_sq(points::point_at(cartesian, k), position))
 }
 
-fn wide(x: u16) -> usize
-    ensures { λ r. ⌜ r ≡ x ⌝ }
-{
-    x as usize
-}
-
 // An entry is absent or a measurement.
 fn known(m: usize, k: usize) -> bool
     ensures { λ r. ⌜ r ≡ Blend.known m k ⌝ }
@@ -66,18 +60,32 @@ fn known(m: usize, k: usize) -> bool
     k < m
 }
 
+fn wide(x: u16) -> usize
+    ensures { λ r. ⌜ r ≡ x ⌝ }
+{
+    x as usize
+}
+
+// Entry j of measurement k.
+fn entry_at(neighbours: &[u16], k: usize, j: usize) -> usize
+    requires { ⌜ (j ≤ 5) × (6 * k + 6 ≤ length (now neighbours)) ⌝ }
+    ensures { λ r. ⌜ r ≡ Blend.entry (now (neighbours .entry)) k j ⌝ }
+{
+    wide(neighbours[6 * k + j])
+}
+
 // The six entries of measurement k.
 fn entries(neighbours: &[u16], k: usize) -> Neighbors
     requires { ⌜ 6 * k + 6 ≤ length (now neighbours) ⌝ }
     ensures { λ r. ⌜ r ≡ neighborsOf (now (neighbours .entry)) k ⌝ }
 {
     Neighbors {
-        phi_plus: wide(neighbours[6 * k + 0]),
-        phi_minus: wide(neighbours[6 * k + 1]),
-        theta_plus: wide(neighbours[6 * k + 2]),
-        theta_minus: wide(neighbours[6 * k + 3]),
-        radius_plus: wide(neighbours[6 * k + 4]),
-        radius_minus: wide(neighbours[6 * k + 5]),
+        phi_plus: entry_at(neighbours, k, 0),
+        phi_minus: entry_at(neighbours, k, 1),
+        theta_plus: entry_at(neighbours, k, 2),
+        theta_minus: entry_at(neighbours, k, 3),
+        radius_plus: entry_at(neighbours, k, 4),
+        radius_minus: entry_at(neighbours, k, 5),
     }
 }
 
@@ -275,6 +283,14 @@ fn stride_of(len: usize, m: usize, r: usize, e: usize) -> Stride
     }
 }
 
+// Measurement k's delay, where s leads to one.
+fn held(delays: &[f32], s: Stride, k: usize) -> f32
+    requires { ⌜ k * s .times + s .plus < length (now delays) ⌝ }
+    ensures { λ r. ⌜ r ≡ delayAt (now (delays .entry)) s k ⌝ }
+{
+    delays[k * s.times + s.plus]
+}
+
 // A measurement's delay for receiver e.
 pub fn plain_delay(delays: &[f32], k: usize, m: usize, r: usize, e: usize) -> Samples
     requires { ⌜ (k < m) × (m ≤ 16384) × (2 ≤ r) × (r ≤ 8) × (e ≤ 1) ⌝ }
@@ -282,7 +298,7 @@ pub fn plain_delay(delays: &[f32], k: usize, m: usize, r: usize, e: usize) -> Sa
 {
     let s = stride_of(delays.len(), m, r, e);
     if s.some {
-        return Samples(delays[k * s.times + s.plus]);
+        return Samples(held(delays, s, k));
     }
     Samples(0.0)
 }
@@ -294,12 +310,10 @@ fn weighed(delays: &[f32], p: Points, s: Stride) -> f32
         × (p .c .number * s .times + s .plus < length (now delays)) × (p .d .number * s .times + s .plus < length (now delays)) ⌝ }
     ensures { λ r. ⌜ r ≡ sums (delayAt (now (delays .entry)) s) zero32 (listOf p) ⌝ }
 {
-    let times = s.times;
-    let plus = s.plus;
-    let a = 0.0 + delays[p.a.number * times + plus] * p.a.weight;
-    let b = a + delays[p.b.number * times + plus] * p.b.weight;
-    let c = b + delays[p.c.number * times + plus] * p.c.weight;
-    let d = c + delays[p.d.number * times + plus] * p.d.weight;
+    let a = 0.0 + held(delays, s, p.a.number) * p.a.weight;
+    let b = a + held(delays, s, p.b.number) * p.b.weight;
+    let c = b + held(delays, s, p.c.number) * p.c.weight;
+    let d = c + held(delays, s, p.d.number) * p.d.weight;
     let count = p.count;
     match count {
         1 => a,

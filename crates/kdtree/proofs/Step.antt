@@ -3,12 +3,13 @@
 use mathlib.Core.Path.{_≡_, refl, sym, ap, _∙_}
 use mathlib.Core.Bool.{Bool, true, false, cond}
 use mathlib.Core.List.{List}
-use Prim.Native.Nat.{ℕ, zero, suc, _-_, _<_, _≤_}
+use Prim.Native.Nat.{ℕ, zero, suc, _+_, _*_, _-_, _<_, _≤_}
 use native.Mathlib.Omega.{arith}
 use lib.ListN.{getD}
 use lib.Dec.{ltb, eqb}
-use lib.Ieee.{Float, lt}
+use lib.Ieee.{Float, nan, binary32, sub, lt, le}
 use borrow.Author.Tests.{le-ltb, lt-ltb, ltb-true}
+use Rattle.floats.specs.Floats.{zero32}
 use Rattle.points.specs.declared.Point3.{Point3}
 use Rattle.kdtree.specs.declared.BoundingBox.{BoundingBox}
 use Rattle.kdtree.specs.declared.Best.{Best}
@@ -16,7 +17,7 @@ use Rattle.kdtree.specs.declared.Searched.{Searched}
 use Rattle.kdtree.specs.declared.Searched.the-variants.{Found, Stopped}
 use Rattle.kdtree.specs.declared.Link.{Link}
 use Rattle.kdtree.specs.declared.Link.the-variants.{Gone, To, Bad}
-use Rattle.kdtree.specs.Geometry.{coordOf, boxDistSq, nextAxis, leftFirst, goesLeft}
+use Rattle.kdtree.specs.Geometry.{byAxis, coordOf, boxDistSq, nextAxis, leftFirst, goesLeft}
 use Rattle.kdtree.specs.Tree.{Tree, linkOf, sideOf, subtree}
 use Rattle.points.specs.Points.{pointAt, distSq}
 use Rattle.kdtree.specs.declared.Slot.{Slot}
@@ -52,6 +53,31 @@ to-is count o l m k (said-to h g) e =
 
 pub link-to : (count o l m : ℕ) → To m ≡ linkOf count o l → record { is : m ≡ l; above : o < m; below : m < count }
 link-to count o l m e = to-is count o l m (linkOf count o l) (said count o l) (sym e)
+
+-- ---- coordinates by the axis
+
+-- the coordinates of a point stand one after the other
+pub at-axis : (xs : List Float) (i axis : ℕ) → axis < 3 → getD xs (3 * i + axis) nan ≡ coordOf (pointAt xs i) axis
+unfolding coordOf byAxis pointAt
+at-axis xs i zero h = let e : 3 * i + zero ≡ 3 * i = omega arith in ap (λ (k : ℕ). getD xs k nan) e
+at-axis xs i (suc zero) h = refl
+at-axis xs i (suc (suc zero)) h = refl
+at-axis xs i (suc (suc (suc axis))) h = absurd (omega arith)
+
+pub first-axis : (xs : List Float) (axis : ℕ) → axis < 3 → getD xs axis nan ≡ coordOf (pointAt xs 0) axis
+first-axis xs axis h = let e : axis ≡ 3 * 0 + axis = omega arith in ap (λ (k : ℕ). getD xs k nan) e ∙ at-axis xs 0 axis h
+
+pub next-below : (axis nx : ℕ) → nx ≡ nextAxis axis → nx < 3
+unfolding nextAxis byAxis
+next-below zero nx e = omega (arith, e)
+next-below (suc zero) nx e = omega (arith, e)
+next-below (suc (suc axis)) nx e = omega (arith, e)
+
+-- the side from the two coordinates
+pub first-left : (q p : Point3) (axis : ℕ) (x v : Float) (g : Bool) → x ≡ coordOf q axis → v ≡ coordOf p axis
+    → g ≡ le (sub binary32 x v) zero32 → g ≡ leftFirst q p axis
+unfolding leftFirst
+first-left q p axis x v g ex ev eg = cc
 
 -- ---- one step
 
@@ -105,15 +131,13 @@ module _ (left right : List ℕ) (xs : List Float) (count : ℕ) where
     module _ (n : ℕ) (b : BoundingBox) (axis : ℕ) (s : Best) where
       -- what the code knows past its first calls
       pub record Here : Type 0 where
-        pub p : Point3
         pub v : Float
         pub g : Bool
         pub nx : ℕ
         pub below : n < count
         pub room : s .visits < count
-        pub ep : p ≡ pointAt xs n
-        pub ev : v ≡ coordOf p axis
-        pub eg : g ≡ leftFirst q p axis
+        pub ev : v ≡ coordOf (pointAt xs n) axis
+        pub eg : g ≡ leftFirst q (pointAt xs n) axis
         pub en : nx ≡ nextAxis axis
 
       module _ (h : Here) where
@@ -165,15 +189,11 @@ module _ (left right : List ℕ) (xs : List Float) (count : ℕ) where
 
         -- what the code knows past the farther side's link, t being the best after the nearer side
         pub record There (t : Best) : Type 0 where
-          pub p : Point3
-          pub v : Float
           pub d : Float
           pub best : Best
           pub l : ℕ
           pub lk : Link
-          pub ep : p ≡ pointAt xs n
-          pub ev : v ≡ coordOf p axis
-          pub ed : d ≡ distSq p q
+          pub ed : d ≡ distSq (pointAt xs n) q
           pub eb : best ≡ improve n d t
           pub el : l ≡ far (h .g) n
           pub ek : lk ≡ linkOf count n l
@@ -191,29 +211,29 @@ module _ (left right : List ℕ) (xs : List Float) (count : ℕ) where
               let z : linkOf count n (far (h .g) n) ≡ Bad = cc in
               rw z
 
-          pub far-in : (m : ℕ) (fb : BoundingBox) (x : Float) (r : Searched) → k .lk ≡ To m → fb ≡ fartherBox (h .g) b axis (k .v) → x ≡ boxDistSq fb q
+          pub far-in : (m : ℕ) (fb : BoundingBox) (u : Point3) (x : Float) (r : Searched) → k .lk ≡ To m → fb ≡ fartherBox (h .g) b axis (h .v) → u ≡ q → x ≡ boxDistSq fb u
               → lt x (k .best .dist) ≡ true → After m fb (h .nx) (k .best) r → Far t r
           unfolding side sideOf
-          far-in m fb x r e ef ex less after f hf =
+          far-in m fb u x r e ef eu ex less after f hf =
               let z : linkOf count n (far (h .g) n) ≡ To m = cc in
               let i = link-to count n (far (h .g) n) m (sym z) in
               let a : r ≡ search count q (T f m) fb (h .nx) (k .best) = after f (omega arith) in
               let w : m ≡ far (h .g) n = i .is in
-              let u : lt (boxDistSq fb q) (k .best .dist) ≡ true = cc in
+              let lo : lt (boxDistSq fb q) (k .best .dist) ≡ true = cc in
               let y : farther q (T f m) (search count q (T f m)) fb (h .nx) (k .best) ≡ search count q (T f m) fb (h .nx) (k .best)
-              = farther-node f m (search count q (T f m)) fb (h .nx) (k .best) (i .below) (omega arith) ∙ rw u in
+              = farther-node f m (search count q (T f m)) fb (h .nx) (k .best) (i .below) (omega arith) ∙ rw lo in
               rw z (cc)
 
-          pub far-out : (m : ℕ) (fb : BoundingBox) (x : Float) → k .lk ≡ To m → fb ≡ fartherBox (h .g) b axis (k .v) → x ≡ boxDistSq fb q
+          pub far-out : (m : ℕ) (fb : BoundingBox) (u : Point3) (x : Float) → k .lk ≡ To m → fb ≡ fartherBox (h .g) b axis (h .v) → u ≡ q → x ≡ boxDistSq fb u
               → lt x (k .best .dist) ≡ false → Far t (Found (k .best))
           unfolding side sideOf
-          far-out m fb x e ef ex less f hf =
+          far-out m fb u x e ef eu ex less f hf =
               let z : linkOf count n (far (h .g) n) ≡ To m = cc in
               let i = link-to count n (far (h .g) n) m (sym z) in
               let w : m ≡ far (h .g) n = i .is in
-              let u : lt (boxDistSq fb q) (k .best .dist) ≡ false = cc in
+              let lo : lt (boxDistSq fb q) (k .best .dist) ≡ false = cc in
               let y : farther q (T f m) (search count q (T f m)) fb (h .nx) (k .best) ≡ Found (k .best)
-              = farther-node f m (search count q (T f m)) fb (h .nx) (k .best) (i .below) (omega arith) ∙ rw u in
+              = farther-node f m (search count q (T f m)) fb (h .nx) (k .best) (i .below) (omega arith) ∙ rw lo in
               rw z (cc)
 
   -- ---- insertion: the slot of a new point p

@@ -12,6 +12,9 @@ use Rattle.points.specs.Points.{distSq}
 use Rattle.kdtree.specs.Geometry.{coordOf, boxDistSq, withMin, withMax, nextAxis, leftFirst}
 use Rattle.kdtree.specs.Tree.{Tree, gone, bad, node}
 
+abbrev pub bestOf : Float → ℕ → ℕ → Best
+bestOf dist place visits = record { dist = dist; place = place; visits = visits }
+
 -- the node wins only if strictly smaller
 unfoldable pub improve : ℕ → Float → Best → Best
 improve n d s = cond (lt d (s .dist)) (record { place = n; dist = d; visits = s .visits }) s

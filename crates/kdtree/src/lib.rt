@@ -13,7 +13,11 @@ ghost use Prim.Native.Nat.{ℕ, _+_, _-_, _*_, _<_, _≤_};
 ghost use lib.ListN.{length, getD};
 ghost use Rattle.kdtree.specs.Geometry.{coordOf, nextAxis, outside, boxDistSq, boxAt, lower, upper, grown, withMin, withMax, goesLeft, leftFirst};
 ghost use Rattle.kdtree.specs.Tree.{linkOf, subtree};
-ghost use Rattle.kdtree.specs.Search.{search, improve, nearerBox, fartherBox};
+ghost use Rattle.kdtree.specs.Search.{search, improve, bestOf, nearerBox, fartherBox};
+ghost use Rattle.kdtree.specs.declared.Searched.the-variants.{Found};
+ghost use Rattle.points.specs.Points.{pointAt, distSq};
+ghost use Rattle.floats.specs.Floats.{zero32};
+ghost use lib.Ieee.{binary32, sub, le};
 ghost use Rattle.kdtree.specs.Insert.{listsOf, storedAs, slotIn, written, roomFor, insertOf};
 ghost use Rattle.kdtree.specs.Nearest.{placeOf, lengthsFor, nearestOf};
 
@@ -224,10 +228,63 @@ pub enum Searched {
     Stopped,
 }
 
-fn left_first(q: Point3, p: Point3, axis: u8) -> bool
-    ensures { λ r. ⌜ r ≡ leftFirst q p axis ⌝ }
+// The query stands in an array: a level of the search keeps one address of it, and reads a coordinate by the axis.
+fn query_point(q: &[f32; 3]) -> Point3
+    ensures { λ r. ⌜ r ≡ pointAt (now (q .entry)) 0 ⌝ }
 {
-    coord(q, axis) - coord(p, axis) <= 0.0
+    Point3 {
+        x: q[0],
+        y: q[1],
+        z: q[2],
+    }
+}
+
+fn query_coord(q: &[f32; 3], axis: u8) -> f32
+    requires { ⌜ axis < 3 ⌝ }
+    ensures { λ r. ⌜ r ≡ coordOf (pointAt (now (q .entry)) 0) axis ⌝ }
+{
+    let at = axis as usize;
+    q[at]
+}
+
+// One coordinate of a place, by the axis.
+fn place_coord(xs: &[f32], place: usize, axis: u8) -> f32
+    requires { ⌜ (axis < 3) × (3 * place + 2 < length (now xs)) ⌝ }
+    ensures { λ r. ⌜ r ≡ coordOf (pointAt (now (xs .entry)) place) axis ⌝ }
+{
+    let at = 3 * place + axis as usize;
+    xs[at]
+}
+
+// From a place to the query.
+fn dist_at(xs: &[f32], place: usize, q: &[f32; 3]) -> f32
+    requires { ⌜ 3 * place + 2 < length (now xs) ⌝ }
+    ensures { λ r. ⌜ r ≡ distSq (pointAt (now (xs .entry)) place) (pointAt (now (q .entry)) 0) ⌝ }
+{
+    points::dist_sq(points::point_at(xs, place), query_point(q))
+}
+
+// Query minus node, on the node's axis.
+fn left_first(q: f32, v: f32) -> bool
+    ensures { λ r. ⌜ r ≡ le (sub binary32 q v) zero32 ⌝ }
+{
+    q - v <= 0.0
+}
+
+fn either(first: bool, a: u16, b: u16) -> u16
+    ensures { λ r. ⌜ r ≡ cond first a b ⌝ }
+{
+    if first { a } else { b }
+}
+
+fn found(dist: f32, place: u16, visits: u16) -> Searched
+    ensures { λ r. ⌜ r ≡ Found (bestOf dist place visits) ⌝ }
+{
+    Searched::Found(Best {
+        dist,
+        place,
+        visits,
+    })
 }
 
 // The node wins only if it is strictly nearer.
@@ -245,61 +302,60 @@ fn better(n: u16, d: f32, best: Best) -> Best
     }
 }
 
-// Nearer side, node, farther side. The point is read again after the nearer side: that keeps the frame small.
+// Nearer side, node, farther side.
+//
+// The best goes down as three numbers, and each answer leaves by a way of its own: a struct that is lent to a call has its place in
+// memory, and to put it together from its fields there and read it at once as a whole is slow. Both links are read before the side
+// is known, so that the next node need not wait for a second read. The node's point is read after the nearer side: a small frame.
 fn nearest_rec(
-    positions: &[f32],
+    xs: &[f32],
     left: &[u16],
     right: &[u16],
-    count: usize,
-    q: Point3,
+    m: usize,
+    q: &[f32; 3],
     rect: BoundingBox,
     node: usize,
     axis: u8,
-    best: Best,
+    dist: f32,
+    place: u16,
+    visits: u16,
 ) -> Searched
-    requires { ⌜ (node < count) × (3 * count ≤ length (now positions)) × (count ≤ length (now left)) × (count ≤ length (now right)) × (count ≤ 16384) ⌝ }
-    ensures { λ r. ⌜ ((f : ℕ) → count - node ≤ f
-        → r ≡ search count q (subtree (now (left .entry)) (now (right .entry)) (now (positions .entry)) count f node) rect axis best) ⌝ }
+    requires { ⌜ (node < m) × (3 * m ≤ length (now xs)) × (m ≤ length (now left)) × (m ≤ length (now right)) × (m ≤ 16384) × (axis < 3) ⌝ }
+    ensures { λ r. ⌜ ((f : ℕ) → m - node ≤ f
+        → r ≡ search m (pointAt (now (q .entry)) 0) (subtree (now (left .entry)) (now (right .entry)) (now (xs .entry)) m f node) rect axis (bestOf dist place visits)) ⌝ }
 {
-    let visits = best.visits as usize;
-    if count <= visits {
+    if m <= visits as usize {
         return Searched::Stopped;
     }
-    let p = points::point_at(positions, node);
-    let v = coord(p, axis);
-    let go_left = left_first(q, p, axis);
-    let next = next_axis(axis);
-    let here = Best {
-        dist: best.dist,
-        place: best.place,
-        visits: best.visits + 1,
-    };
-    let nearer = pick(go_left, left, right, node);
-    let after = match link_of(count, node, nearer) {
-        Link::Gone => Searched::Found(here),
+    let v = place_coord(xs, node, axis);
+    let go_left = left_first(query_coord(q, axis), v);
+    let ax = next_axis(axis);
+    let seen = visits + 1;
+    let l = left[node];
+    let r = right[node];
+    let after = match link_of(m, node, either(go_left, l, r)) {
+        Link::Gone => found(dist, place, seen),
         Link::To(n) => {
-            let side = nearer_box(rect, axis, v, go_left);
-            nearest_rec(positions, left, right, count, q, side, n, next, here)
+            let near = nearer_box(rect, axis, v, go_left);
+            nearest_rec(xs, left, right, m, q, near, n, ax, dist, place, seen)
         }
         Link::Bad => Searched::Stopped,
     };
     let Searched::Found(t) = after else {
         return Searched::Stopped;
     };
-    let p2 = points::point_at(positions, node);
-    let v2 = coord(p2, axis);
-    let best2 = better(node as u16, points::dist_sq(p2, q), t);
-    let farther = pick(go_left, right, left, node);
-    match link_of(count, node, farther) {
-        Link::Gone => Searched::Found(best2),
-        Link::Bad => Searched::Stopped,
+    let b = better(node as u16, dist_at(xs, node, q), t);
+    match link_of(m, node, either(go_left, r, l)) {
+        Link::Gone => return Searched::Found(b),
+        Link::Bad => return Searched::Stopped,
         Link::To(n) => {
-            let side = farther_box(rect, axis, v2, go_left);
-            if side.dist_sq(q) < best2.dist {
-                nearest_rec(positions, left, right, count, q, side, n, next, best2)
-            } else {
-                Searched::Found(best2)
+            let far = farther_box(rect, axis, v, go_left);
+            let d = b.dist;
+            if far.dist_sq(query_point(q)) < d {
+                let last = nearest_rec(xs, left, right, m, q, far, n, ax, d, b.place, b.visits);
+                return last;
             }
+            return Searched::Found(b);
         }
     }
 }
@@ -317,12 +373,21 @@ pub fn nearest_place(
     ensures { λ r. ⌜ r ≡ placeOf (now (positions .entry)) (now (left .entry)) (now (right .entry)) count bounds q ⌝ }
 {
     let root = points::point_at(positions, 0);
-    let start = Best {
-        dist: points::dist_sq(root, q),
-        place: 0,
-        visits: 0,
-    };
-    nearest_rec(positions, left, right, count, q, bounds, 0, 0, start)
+    let start = points::dist_sq(root, q);
+    let at = [q.x, q.y, q.z];
+    nearest_rec(
+        positions,
+        left,
+        right,
+        count,
+        &at,
+        bounds,
+        0,
+        0,
+        start,
+        0,
+        0,
+    )
 }
 
 pub enum Named {

@@ -23,11 +23,11 @@ use Rattle.mix.specs.Mix.{startOf}
 use Rattle.interpolate.specs.Blend.{Filter, extractOf}
 use Rattle.delays.specs.Delays.{secondsOf}
 use Rattle.interpolate.specs.declared.Neighbors as port
-use Rattle.reader.specs.declared.Around.the-variants.{Six}
-use Rattle.reader.specs.declared.MaxDelay.the-variants.{Delay}
-use Rattle.reader.specs.Longest.{greatest, longestOf, maxBy, maxDelayOf}
+use Rattle.stored.specs.declared.Around.the-variants.{Six}
+use Rattle.stored.specs.declared.MaxDelay.the-variants.{Delay}
+use Rattle.stored.specs.Longest.{greatest, longestOf, maxBy, maxDelayOf}
 use Rattle.reader.specs.Queries.{allowed, nearestOr, filterSays, plainSays, numberSays}
-use Rattle.reader.specs.Numbers.{partBy, partOf, within, responseOf, aroundBy, aroundOf, entriesOf}
+use Rattle.stored.specs.Numbers.{partBy, partOf, within, responseOf, aroundBy, aroundOf, entriesOf}
 use Rattle.loads.specs.declared.Loaded.the-variants.{Ready, Refused}
 use Rattle.loads.specs.Load.{Work, Load, cartesianFrom, indexed, loadBy, loadOf}
 use Rattle.loads.proofs.Ways.{as-long}
@@ -38,7 +38,7 @@ use Rattle.source.specs.Interpolate.{InterpolatedFilter, «extract_filter», «
 use Rattle.source.specs.Reader as source
 use Rattle.source.specs.Reader.{opened, «open_data», filter, «filter_nointerp», filledOr, foldMax, «max_delay»}
 use Rattle.source_laws.specs.Drawn.{ported, heard}
-use Rattle.source_laws.specs.Way.{exactly, told}
+use Rattle.source_laws.specs.Way.{exactly, wayIn, told}
 use Rattle.source_laws.specs.Same as set
 use Rattle.source_laws.specs.Same.{SameAsSource}
 use Rattle.source_laws.proofs.Same as theorem
@@ -116,11 +116,11 @@ module _ (g : Given) (fine : judged g ≡ Fine) where
   unfolding findMutOf movedBy
   moves l f = ap (λ (r : Located). movedBy r look l) (finds (pointIn l) f)
 
-  filters : (q : Point3) → Finite q → (out : source.Filter) → portFilter g w look q out ≡ told (same .way q) (filter (same .sofar) (q .x) (q .y) (q .z) out)
+  filters : (q : Point3) → Finite q → (out : source.Filter) → portFilter g w look q out ≡ told (wayIn (same .sofar) (same .number q) q) (filter (same .sofar) (q .x) (q .y) (q .z) out)
   unfolding filterSays
   filters q f out =
       past _ (found q) (length (out .left)) (length (out .right)) (set.blend s out q) (same .number q) (filter-fine g fine q f) (same .port-finds q)
-      ∙ same .outcomes q f out
+      ∙ same .filters q f out
 
   plain-told : (out : source.Filter) (k : ℕ) → set.plain s out k ≡ told exactly (heard (set.plain s out k))
   unfolding extractOf

@@ -17,12 +17,12 @@ use Rattle.lookup.specs.declared.Located.{Located}
 use Rattle.lookup.specs.declared.Located.the-variants.{At}
 use Rattle.lookup.specs.Lookup.{Moved, movedAs, pointIn, putPoint, findOf, findMutOf}
 use Rattle.interpolate.specs.Blend.{Filter}
-use Rattle.reader.specs.declared.MaxDelay.the-variants.{Delay}
-use Rattle.reader.specs.declared.Entries.{Entries}
-use Rattle.reader.specs.declared.Around.the-variants.{Six}
+use Rattle.stored.specs.declared.MaxDelay.the-variants.{Delay}
+use Rattle.stored.specs.declared.Entries.{Entries}
+use Rattle.stored.specs.declared.Around.the-variants.{Six}
 use Rattle.reader.specs.Queries.{filterSays, plainSays, numberSays}
-use Rattle.reader.specs.Numbers.{responseOf, aroundOf}
-use Rattle.reader.specs.Longest.{maxDelayOf}
+use Rattle.stored.specs.Numbers.{responseOf, aroundOf}
+use Rattle.stored.specs.Longest.{maxDelayOf}
 use Rattle.loads.specs.Load.{Work, Load, lengthsIn, loadOf}
 use Rattle.source.specs.Rust.{Option, Some}
 use Rattle.source.specs.Lookup.{Hrtf, find, «find_mut»}
@@ -32,7 +32,7 @@ use Rattle.source.specs.Interpolate.{InterpolatedFilter, «get_filter_nointerp�
 use Rattle.source.specs.Reader as source
 use Rattle.source.specs.Reader.{«open_data», filledOr, filter, «filter_nointerp», «max_delay»}
 use Rattle.source_laws.specs.Drawn.{ported, entered}
-use Rattle.source_laws.specs.Way.{exactly, told}
+use Rattle.source_laws.specs.Way.{exactly, wayIn, told}
 use Rattle.source_laws.specs.Same as set
 use Rattle.source_laws.specs.Same.{Set, SameAsSource}
 
@@ -134,8 +134,8 @@ pub record LoadsAsSource (g : Given) (w : Work) (look : Lookup) : Type 0 where
   pub moved : Point3 → Point3
   pub source-moves : (q : Point3) → «find_mut» (same .sofar .lookup) q ≡ record { answer = Some (number q); coordinate = moved q }
   pub port-moves : (l : List Float) → Finite (pointIn l) → portFindMut g w look l ≡ movedAs (At (number (pointIn l))) (putPoint l (moved (pointIn l)))
-  -- filter, filter_nointerp, and the filter of a measurement: both outputs, both delays in seconds, exact or blended of how many points (`way`)
-  pub filters : (q : Point3) → Finite q → (out : source.Filter) → portFilter g w look q out ≡ told (same .way q) (filter (same .sofar) (q .x) (q .y) (q .z) out)
+  -- filter, filter_nointerp, and the filter of a measurement: both outputs, both delays in seconds, exact or blended of how many points, as the source goes
+  pub filters : (q : Point3) → Finite q → (out : source.Filter) → portFilter g w look q out ≡ told (wayIn (same .sofar) (number q) q) (filter (same .sofar) (q .x) (q .y) (q .z) out)
   pub filters-plain : (q : Point3) → Finite q → (out : source.Filter) → portPlain g w look q out ≡ told exactly («filter_nointerp» (same .sofar) (q .x) (q .y) (q .z) out)
   pub by-number : (k : ℕ) → k < g .sizes .m → (out : source.Filter)
       → portNumber g k out ≡ told exactly (filledOr (same .sofar) out («get_filter_nointerp» (same .sofar .hrtf) k))

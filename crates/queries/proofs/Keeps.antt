@@ -1,7 +1,6 @@
 -- The limits of the text form hold at the start and after every line. Assumes nothing.
-use Prim.Native.Nat.{_≤_}
-use mathlib.Core.List.{List}
 use Prim.Native.Nat.{ℕ}
+use mathlib.Core.List.{List}
 use lib.Dec.{lit≤}
 use lib.ListN.{length}
 use Rattle.settext.specs.declared.State.{State}

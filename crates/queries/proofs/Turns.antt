@@ -28,7 +28,7 @@ use Rattle.queries.specs.declared.Phase.{Phase}
 use Rattle.queries.specs.declared.Phase.the-variants.{Ready, Over}
 use Rattle.queries.specs.Program.{Session, session, Turn, turn, stateIn, isOver, moved, loadTurn, byLoad, blockIn, stepTurn, afterTurn, lineTurn}
 use Rattle.queries.specs.Sound.{Few, SoundPhase}
-use Rattle.queries.specs.Machine.{Advance, between, advanceAs, lineAdvance, partAdvance, advanceOf}
+use Rattle.queries.specs.Machine.{between, advanceAs, lineAdvance, partAdvance, advanceOf}
 
 -- once over, nothing is read and nothing printed
 pub silent : (room : ℕ) (a : At Session) (s : List ℕ) → isOver (a .known .phase) ≡ true → advanceOf room a s ≡ advanceAs a [] []

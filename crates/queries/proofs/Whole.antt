@@ -1,26 +1,28 @@
 -- However a text is cut into chunks, all that the turns over the chunks print, and then the end, come to `outputFrom` of the text (`whole`); once
--- the program is over, nothing more is printed, whatever the text goes on with (`nothing-more`). Assumes nothing.
+-- the program is over, nothing more is printed, whatever the text goes on with (`nothing-more`). `program`, `told` and `printed` say it of what `advance` and
+-- `finish` promise. Assumes nothing.
 use Prim.Native.Nat.{ℕ, suc, _≤_}
-use mathlib.Core.Path.{_≡_, refl, sym, ap, _∙_}
+use mathlib.Core.Path.{_≡_, refl, sym, ap, subst, _∙_}
 use mathlib.Core.Bool.{Bool, true, false}
 use mathlib.Core.List.{List, [], _∷_, _++_, append-assoc, append-nil}
-use native.Mathlib.Omega.{arith}
-use lib.Dec.{lit≤}
-use lib.ListN.{take}
+use lib.Dec.{T, lit≤}
+use lib.ListN.{take, drop}
 use Rattle.lines.specs.Lines.{Part, line, more, cut, whole as all}
 use Rattle.lines.specs.Machine.{At, split, runs, after, shortAt}
 use Rattle.lines.proofs.Chunks.{runs-on, runs-kept, stays, by-lines, by-text, by-rest}
-use Rattle.settext.specs.Lines.{Lists, After, lineOf}
+use Rattle.settext.specs.Lines.{Lists, After}
 use Rattle.setread.specs.Text.{joined}
 use Rattle.setread.proofs.Long.{long-lines}
 use Rattle.setread.proofs.Whole.{end-of}
 use Rattle.setread.proofs.Reached.{begins-so}
 use Rattle.loads.specs.Load.{Work}
+use Rattle.queries.specs.declared.Run.{Run}
+use Rattle.queries.specs.declared.Told.{Told}
 use Rattle.queries.specs.declared.Phase.{Phase}
 use Rattle.queries.specs.declared.Phase.the-variants.{Reading, Ready, Over}
-use Rattle.queries.specs.Program.{Session, Turn, Known, known, stateIn, isOver, afterTurn, lineTurn, ended, printing, onLine, endText, closing, closed, begun, outputFrom, noLists, noWork, outputOf}
+use Rattle.queries.specs.Program.{Session, Known, known, stateIn, isOver, afterTurn, lineTurn, ended, printing, onLine, endText, closing, closed, begun, outputFrom, noLists, noWork, outputOf}
 use Rattle.queries.specs.Sound.{SoundPhase}
-use Rattle.queries.specs.Machine.{between, Advance, partAdvance, advanceOf, Makes, done, next, goes}
+use Rattle.queries.specs.Machine.{between, Advance, partAdvance, advanceOf, placeOf, AdvanceSays, FinishSays, Makes, done, next, goes}
 use Rattle.queries.proofs.Keeps.{turn-sound}
 use Rattle.queries.proofs.Turns.{silent, goes-by}
 
@@ -117,14 +119,8 @@ module _ (room : ℕ) (large : 40000 ≤ suc room) (d : Lists) (w : Work) where
   whole {z} {cs} {p} m = comes-to (joined cs) (at p z) (each (suc room) [] m)
 
   nothing-left : (f : Phase) (h p : List ℕ) → isOver f ≡ true → p ++ closing f h ≡ p
-  nothing-left (Reading s) h p e = absurd (no e)
-    where
-      no : false ≡ true → ⊥
-      no e = let z : _≡_ {A = ℕ} 0 1 = cc in omega arith
-  nothing-left (Ready s look) h p e = absurd (no e)
-    where
-      no : false ≡ true → ⊥
-      no e = let z : _≡_ {A = ℕ} 0 1 = cc in omega arith
+  nothing-left (Reading s) h p e = absurd (subst T (sym e) tt)
+  nothing-left (Ready s look) h p e = absurd (subst T (sym e) tt)
   nothing-left Over h p e = append-nil p
 
   -- Once over, all is printed: whatever the text goes on with
@@ -142,3 +138,17 @@ pub program : {z : At Session} {cs : List (List ℕ)} {p : List ℕ} → Makes 4
     → p ++ closing (z .known .phase) (z .have) ≡ outputOf (joined cs)
 unfolding outputOf
 program m = whole 39999 (lit≤ tt) noLists noWork m
+
+-- ---- in the code's terms
+
+-- what `advance` promises is a turn
+pub told : {chunk : List ℕ} {from : ℕ} {buf buf′ : List ℕ} {t : Run} {d d′ : Lists} {w w′ : Work} {out′ : List ℕ} {r : Told} {cs : List (List ℕ)} {p : List ℕ} {z : At Session}
+    → AdvanceSays chunk from buf buf′ t d d′ w w′ out′ r → Makes 40000 (placeOf (r .run) d′ w′ buf′) (drop (r .next) chunk ∷ cs) p z
+    → Makes 40000 (placeOf t d w buf) (drop from chunk ∷ cs) (take (r .count) out′ ++ p) z
+told {chunk} {from} {buf} {t = t} {d = d} {w = w} {cs = cs} {p = p} {z = z} says m =
+    subst (λ (x : Advance). Makes 40000 (x .place) (x .left ∷ cs) p z → Makes 40000 (placeOf t d w buf) (drop from chunk ∷ cs) (x .printed ++ p) z) (sym (says .same)) goes m
+
+-- what the turns over a text said to print, and what `finish` says then, is the output of the text
+pub printed : {cs : List (List ℕ)} {p buf out′ : List ℕ} {t : Run} {d : Lists} {w : Work} {r : ℕ}
+    → Makes 40000 (between (begun noLists noWork) []) cs p (placeOf t d w buf) → FinishSays buf t out′ r → p ++ take r out′ ≡ outputOf (joined cs)
+printed {p = p} m says = ap (λ (l : List ℕ). p ++ l) (says .same) ∙ program m

@@ -65,7 +65,7 @@ pub record LineSays (f : Phase) (l : List ℕ) (d d′ : Lists) (w w′ : Work) 
   pub count : r .count ≤ length out′
 
 pub record AdvanceSays (chunk : List ℕ) (from : ℕ) (buf buf′ : List ℕ) (t : Run) (d d′ : Lists) (w w′ : Work) (out′ : List ℕ) (r : Told) : Type 0 where
-  pub same : advanceAs (placeOf (r .run) d′ w′ buf′) (drop (r .next) chunk) (take (r .count) out′) ≡ advanceOf (length buf) (placeOf t d w buf) (drop from chunk)
+  pub same : advanceAs (placeOf (r .run) d′ w′ buf′) (drop (r .next) chunk) (take (r .count) out′) ≡ advanceOf 40000 (placeOf t d w buf) (drop from chunk)
   pub sound : Sound (r .run)
   pub next : r .next ≤ length chunk
   pub moves : from < length chunk → from < r .next

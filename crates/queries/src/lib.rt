@@ -1,8 +1,13 @@
 // The query program but for its reading and writing: one turn reads up to the end of a line, or to the end of what is there, and says what to print.
 //
 // specs/Program.antt says what the program prints of a whole text, `outputOf`, line by line as document 01's "The query program" has it; `advance`
-// equals one turn, `advanceOf` (specs/Machine.antt), and `finish` what is printed at the end. proofs/Whole.antt: however the text is cut into
-// chunks, all that the turns print and then the end come to `outputOf` of the text (`whole`), and once over nothing more is printed.
+// equals one turn, `advanceOf` (specs/Machine.antt), and `finish` what is printed at the end.
+//
+// proofs/Whole.antt: however the text is cut into chunks, all that the turns print and then the end come to `outputOf` of the text (`whole`, `program`),
+// and once over nothing more is printed (`nothing-more`). proofs/Turning.antt: there are turns for every text (`turns`). proofs/Order.antt: no
+// query comes before the set's last line, and nothing but queries after it (`in-order`). proofs/Each.antt: a loaded set prints one block for each
+// query, in their order (`each-block`). proofs/Keeps.antt: the limits of the text form hold after every line (`turn-sound`), so that the
+// program's lists are never too short (proofs/Enough.antt, `never-short`). proofs/Texts.antt: five short texts and all that is printed of them.
 ghost use mathlib.Core.Path.{_≡_};
 ghost use Prim.Native.Nat.{_+_, _*_, _≤_};
 ghost use lib.ListN.{length};

@@ -1,3 +1,2 @@
 pub mod Near
 pub mod Ways
-pub mod Parts

@@ -11,9 +11,9 @@ use loads::Loaded;
 use lookup::Located;
 use lookup::Lookup;
 use points::Point3;
-use reader::Around;
-use reader::MaxDelay;
-use reader::Part;
+use stored::Around;
+use stored::MaxDelay;
+use stored::Part;
 use text::Num;
 
 // Where the next word stands, whether the answer is as stored so far, and the counts.
@@ -471,14 +471,14 @@ fn are_parts(w: &[u32], t: Tape, g: Given, responses: &[f32], number: usize) -> 
     let left = is_part(
         w,
         t,
-        reader::left_part(g.sizes, n, number),
-        reader::left_response(g.sizes, responses, number),
+        stored::left_part(g.sizes, n, number),
+        stored::left_response(g.sizes, responses, number),
     );
     is_part(
         w,
         left,
-        reader::right_part(g.sizes, n, number),
-        reader::right_response(g.sizes, responses, number),
+        stored::right_part(g.sizes, n, number),
+        stored::right_response(g.sizes, responses, number),
     )
 }
 
@@ -538,7 +538,7 @@ fn by_number(
     let number = count(w, t.at);
     let one = single(w, moved(t, 1), g, responses, delays, number);
     let parts = are_parts(w, one, g, responses, number);
-    told(is_around(w, parts, reader::neighbors_of(g.sizes, neighbours, number)))
+    told(is_around(w, parts, stored::neighbors_of(g.sizes, neighbours, number)))
 }
 
 fn by_numbers(
@@ -564,7 +564,7 @@ fn by_numbers(
 fn is_longest(w: &[u32], t: Tape, delays: &[f32]) -> Tape {
     let rate = value(w, t.at);
     let s = moved(t, 1);
-    match reader::max_delay(delays, rate) {
+    match stored::max_delay(delays, rate) {
         MaxDelay::Delay(seconds) => told(is_value(w, is_refusal(w, s, 0, 0), seconds.0)),
         MaxDelay::Refused(reason, place) => told(is_value(w, is_refusal(w, s, reason, place), 0.0)),
     }

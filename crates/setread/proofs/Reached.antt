@@ -24,7 +24,7 @@ use Rattle.settext.specs.State.{startOf, numberOf, totalOf, counted, wentOf, ba
 use Rattle.settext.specs.Lines.{Lists, After, gives, asked, when, plain, pickAfter, posLine, irLine, delayLine, product, kindOf, keys, keyLine, formLine, kindLine, mLine, rLine, nLine, rateLine, astepLine, rstepLine, delaysLine, valuesLine, queryLine, lineOf}
 use Rattle.settext.proofs.Laws.{behind-within, product-is}
 use Rattle.setread.specs.Text.{stateOf, onLine}
-use Rattle.setread.specs.Kept.{Kept, Reached}
+use Rattle.setread.specs.Kept.{Reached}
 
 pub begins-so : Reached startOf
 begins-so = record { taps = lit≤ tt; points = lit≤ tt; product = lit≤ tt; unread = λ h. refl; delays = lit≤ tt }

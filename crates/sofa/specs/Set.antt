@@ -10,12 +10,12 @@ use Rattle.lookup.specs.declared.Located.{Located}
 use Rattle.lookup.specs.declared.Located.the-variants as located
 use Rattle.lookup.specs.Lookup.{Moved}
 use Rattle.interpolate.specs.Blend.{Filter}
-use Rattle.reader.specs.declared.Part.{Part}
-use Rattle.reader.specs.declared.Part.the-variants as part
-use Rattle.reader.specs.declared.Around.{Around}
-use Rattle.reader.specs.declared.Around.the-variants as around
-use Rattle.reader.specs.declared.MaxDelay.{MaxDelay}
-use Rattle.reader.specs.declared.MaxDelay.the-variants as longest
+use Rattle.stored.specs.declared.Part.{Part}
+use Rattle.stored.specs.declared.Part.the-variants as part
+use Rattle.stored.specs.declared.Around.{Around}
+use Rattle.stored.specs.declared.Around.the-variants as around
+use Rattle.stored.specs.declared.MaxDelay.{MaxDelay}
+use Rattle.stored.specs.declared.MaxDelay.the-variants as longest
 use Rattle.loads.specs.declared.Loaded.{Loaded}
 use Rattle.loads.specs.declared.Loaded.the-variants as loaded
 use Rattle.loads.specs.Load.{Work, Load}

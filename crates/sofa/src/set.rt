@@ -8,16 +8,16 @@ use loads::Loaded;
 use lookup::Located;
 use lookup::Lookup;
 use points::Point3;
-use reader::Around;
-use reader::MaxDelay;
-use reader::Part;
+use stored::Around;
+use stored::MaxDelay;
+use stored::Part;
 ghost use mathlib.Core.Path.{_≡_};
 ghost use lib.ListN.{length};
 ghost use Rattle.lookup.specs.Lookup.{findOf, findMutOf};
 ghost use Rattle.loads.specs.Load.{workOf, loadOf};
 ghost use Rattle.reader.specs.Queries.{filterSays, plainSays, numberSays};
-ghost use Rattle.reader.specs.Numbers.{partOf, aroundOf};
-ghost use Rattle.reader.specs.Longest.{maxDelayOf};
+ghost use Rattle.stored.specs.Numbers.{partOf, aroundOf};
+ghost use Rattle.stored.specs.Longest.{maxDelayOf};
 ghost use Rattle.sofa.specs.Tree.{point};
 ghost use Rattle.sofa.specs.Set.{locatedAs, loadedAs, filteredAs, partAs, aroundAs, longestAs, loadedBy, loadTold, movedBy, moveTold, filteredBy, filterTold};
 
@@ -322,14 +322,14 @@ fn part(a: Part) -> SofaPart
 pub extern "C" fn sofa_left_response(sizes: Sizes, responses: &[f32], number: usize) -> SofaPart
     ensures { λ r. ⌜ r ≡ partAs (partOf sizes (length (now (responses .entry))) number 0) ⌝ }
 {
-    part(reader::left_part(sizes, responses.len(), number))
+    part(stored::left_part(sizes, responses.len(), number))
 }
 
 #[no_mangle]
 pub extern "C" fn sofa_right_response(sizes: Sizes, responses: &[f32], number: usize) -> SofaPart
     ensures { λ r. ⌜ r ≡ partAs (partOf sizes (length (now (responses .entry))) number 1) ⌝ }
 {
-    part(reader::right_part(sizes, responses.len(), number))
+    part(stored::right_part(sizes, responses.len(), number))
 }
 
 fn around(a: Around) -> SofaNeighbors
@@ -367,7 +367,7 @@ pub extern "C" fn sofa_neighbors_of(
 ) -> SofaNeighbors
     ensures { λ r. ⌜ r ≡ aroundAs (aroundOf sizes (now (neighbours .entry)) number) ⌝ }
 {
-    around(reader::neighbors_of(sizes, neighbours, number))
+    around(stored::neighbors_of(sizes, neighbours, number))
 }
 
 fn longest(a: MaxDelay) -> SofaValue
@@ -391,5 +391,5 @@ fn longest(a: MaxDelay) -> SofaValue
 pub extern "C" fn sofa_max_delay(delays: &[f32], rate: f32) -> SofaValue
     ensures { λ r. ⌜ r ≡ longestAs (maxDelayOf (now (delays .entry)) rate) ⌝ }
 {
-    longest(reader::max_delay(delays, rate))
+    longest(stored::max_delay(delays, rate))
 }

@@ -1,4 +1,4 @@
--- What a host has after `sofa_load`: with reason 0 the source's set, else its lists as they were. The premise `told` is the contract of `sofa_load`. Assumes nothing.
+-- What a host has after `sofa_load`: with reason 0 the source's set, else its lists as they were. The premise `says` is the contract of `sofa_load`. Assumes nothing.
 use mathlib.Core.Path.{_≡_, refl, sym, ap, _∙_, subst}
 use mathlib.Core.Bool.{Bool, true, false}
 use mathlib.Core.List.{List, [], _∷_}
@@ -12,12 +12,16 @@ use Rattle.lookup.specs.declared.Lookup.{Lookup}
 use Rattle.loads.specs.declared.Loaded.{Loaded}
 use Rattle.loads.specs.declared.Loaded.the-variants.{Ready}
 use Rattle.loads.specs.Load.{Work, Load, indexed, loadBy, loadOf}
+use Rattle.source.specs.Reader as source
+use Rattle.source.specs.Reader.{filter}
+use Rattle.source_laws.specs.Way.{Way, exactly, blending, wayIn, told}
 use Rattle.source_laws.specs.Same.{look}
 use Rattle.load_laws.specs.Load.{Given, judged, loaded, setIn, LoadsAsSource}
 use Rattle.load_laws.proofs.Load.{accepted, from-load}
 use Rattle.load_laws.proofs.Loaded.{done}
 use Rattle.sofa.specs.declared.set.SofaLoaded.{SofaLoaded}
-use Rattle.sofa.specs.Set.{LoadedSet, loadedAs, loadedBy, loadTold}
+use Rattle.sofa.specs.Set.{LoadedSet, locatedAs, loadedAs, longestAs, loadedBy, loadTold, moveTold, filterTold}
+use Rattle.sofa_laws.specs.Host.{heardBy, HearsSource}
 
 -- ---- no line of the table has the number 0
 
@@ -46,12 +50,16 @@ unfolding loadBy
 left-as verdict.Fine l d h = absurd (h refl)
 left-as (verdict.Refused n p) l d h = refl
 
-module _ (g : Given) (r : SofaLoaded) (w : Work) (told : loadedBy r w ≡ loadTold (loaded g)) where
+heard-as : (way : Way) (f : source.Filter) → filterTold (told way f) ≡ heardBy way f
+heard-as exactly f = refl
+heard-as (blending l) f = refl
+
+module _ (g : Given) (r : SofaLoaded) (w : Work) (says : loadedBy r w ≡ loadTold (loaded g)) where
   answer-is : r ≡ loadedAs (loaded g .answer)
-  answer-is = ap (λ (x : LoadedSet). x .out) told
+  answer-is = ap (λ (x : LoadedSet). x .out) says
 
   lists-are : w ≡ loaded g .work
-  lists-are = ap (λ (x : LoadedSet). x .work) told
+  lists-are = ap (λ (x : LoadedSet). x .work) says
 
   -- THE REASON IS THE TABLE'S: 0 exactly where no line is met
   pub reason-told : r .reason ≡ reasonOf (judged g)
@@ -69,6 +77,20 @@ module _ (g : Given) (r : SofaLoaded) (w : Work) (told : loadedBy r w ≡ loadTo
       let ready = accepted g (fine-if g (sym reason-told ∙ e)) in
       let same = ap (λ (x : SofaLoaded). x .lookup) answer-is ∙ ap (λ (a : Loaded). loadedAs a .lookup) ready in
       subst (λ (v : Work). LoadsAsSource g v (r .lookup)) (sym lists-are) (from-load g (r .lookup) (ready ∙ ap Ready (sym same)))
+
+  -- AND HEARS its answers
+  pub hears : r .reason ≡ 0 → HearsSource g r w
+  hears e =
+      let S = loads-as-source e in
+      record {
+        loads = S;
+        finds = λ q f. ap locatedAs (S .port-finds q f);
+        moves = λ l f. ap moveTold (S .port-moves l f);
+        filters = λ q f out. ap filterTold (S .filters q f out) ∙ heard-as (wayIn (S .same .sofar) (S .number q) q) (filter (S .same .sofar) (q .x) (q .y) (q .z) out);
+        filters-plain = λ q f out. ap filterTold (S .filters-plain q f out);
+        by-number = λ k h out. ap filterTold (S .by-number k h out);
+        longest = ap longestAs (S .longest);
+      }
 
   -- ANY OTHER leaves its lists as they were
   pub keeps : (r .reason ≡ 0 → ⊥) → w ≡ g .work

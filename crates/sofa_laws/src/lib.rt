@@ -1,4 +1,4 @@
-// From a host's call to the source: what the exported `sofa_load` answers and leaves, by its contract, is what the crate load_laws speaks of. Theory alone.
+// From a host's calls to the source: what the exported functions answer and leave, by their contracts, is what the crate load_laws speaks of. Theory alone.
 //
-// proofs/Host.antt: reason 0 is told exactly where `load` accepts; then `LoadsAsSource` holds of the lists and the lookup that the host has (`loads-as-source`),
-// and any other reason leaves the lists as they were (`keeps`). What the host hears of each later call is what its contract makes of that page's equations.
+// specs/Host.antt: what a host hears of each call after a `sofa_load` with reason 0 (`HearsSource`). proofs/Host.antt proves it (`hears`): reason 0 is told exactly
+// where no line of document 01's table is met (`reason-told`), and any other reason leaves the lists as they were (`keeps`).

@@ -9,12 +9,7 @@ use Rattle.points.specs.declared.Point3.{Point3}
 use Rattle.points.specs.Points.{Finite}
 use Rattle.interpolate.specs.Blend.{neighborsOf}
 use Rattle.lookup.specs.Build.{buildOf, boxOf, lookupOf}
-use Rattle.lookup.specs.declared.Located.{Located}
-use Rattle.lookup.specs.declared.Located.the-variants.{At}
-use Rattle.lookup.specs.Lookup.{clampedBy, locateOf, unless, findOf, findMutOf, movedAs, movedBy, pointIn, putPoint}
-use Rattle.limits.specs.declared.Verdict.{Verdict}
-use Rattle.limits.specs.declared.Verdict.the-variants.{Fine}
-use Rattle.limits.specs.Refusals.{verdictOf, findLines}
+use Rattle.lookup.specs.Lookup.{clampedBy}
 use Rattle.neighbors.specs.Neighbors.{Tabled}
 use Rattle.source.specs.Rust.{Option, Some}
 use Rattle.source.specs.Lookup.{«find_mut», find, «normalize_radius»}
@@ -23,8 +18,8 @@ use Rattle.source.specs.Interpolate.{interpolate, «extract_filter», «get_fil
 use Rattle.source.specs.Reader as reader
 use Rattle.source.specs.Reader.{Sofar, opened, openedBy, filledOr, filterAt, filter, nointerpAt, «filter_nointerp»}
 use Rattle.source_laws.specs.Drawn.{ported, enteredAll, heard}
-use Rattle.source_laws.specs.Way.{Way, wayOf, madeBy, told}
-use Rattle.source_laws.specs.Same.{Set, Loaded, hrtf, sizes, lengths, look, blend, plain, SameAsSource}
+use Rattle.source_laws.specs.Way.{Way, wayIn, madeBy, told}
+use Rattle.source_laws.specs.Same.{Set, Loaded, hrtf, look, blend, plain, SameAsSource}
 use Rattle.source_laws.proofs.Linked.{Holds, Finds, finds, tree-same}
 use Rattle.source_laws.proofs.Built.{measuredTo, boxBy, bounds-same, box-same, six-same, new-same}
 use Rattle.source_laws.proofs.Find.{clamp-same}
@@ -75,28 +70,19 @@ module _ (n r t : ℕ) (xs : List Float) (left right near : List ℕ) (resp dela
       ap (λ (o : Option ℕ). record { answer = o; coordinate = «normalize_radius» (measuredTo xs (suc n)) q }) (found q .in-source)
       ∙ ap (λ (p : Point3). record { answer = Some (found q .number); coordinate = p }) (clamp-same xs (suc n) q)
 
-  answers : (q : Point3) → verdictOf (findLines (sizes s) (lengths s) q) ≡ Fine → findOf (look s) (sizes s) xs left right q ≡ At (found q .number)
-  unfolding findOf unless
-  answers q e = ap (λ (v : Verdict). unless v (locateOf (look s) (suc n) xs left right q)) e ∙ found q .in-port
-
-  moved : (l : List Float) → verdictOf (findLines (sizes s) (lengths s) (pointIn l)) ≡ Fine
-      → findMutOf (look s) (sizes s) xs left right l ≡ movedAs (At (found (pointIn l) .number)) (putPoint l (clampedBy (look s) (pointIn l)))
-  unfolding findMutOf movedBy
-  moved l e = ap (λ (r : Located). movedBy r (look s) l) (answers (pointIn l) e)
-
   plainly : (k : ℕ) → k < suc n → (out : reader.Filter) → filledOr built out («extract_filter» (hrtf s) k t r) ≡ heard (plain s out k)
   plainly k h out = extract-same (suc n) r t xs resp delays rate (L .most) (L .positions) (L .ears) (L .taps) built refl out k h
 
-  filters : (q : Point3) → Finite q → (out : reader.Filter) → filter built (q .x) (q .y) (q .z) out ≡ heard (blend s out q (found q .number))
+  fills : (q : Point3) → Finite q → (out : reader.Filter) → filter built (q .x) (q .y) (q .z) out ≡ heard (blend s out q (found q .number))
   unfolding filter filterAt
-  filters q f out =
+  fills q f out =
       let k = found q .number in
       ap (filterAt built q out) (found q .in-source)
       ∙ interpolate-same (suc n) r t xs resp delays rate (L .most) (L .positions) (L .ears) (L .taps) built refl out q k (found q .below) (record { points = L .finite; query = f })
       (ours k) (row-in xs n (L .most) left right holds angle radius (L .angle-step) k) (built .neighborhood) near (rows k (found q .below)) (entries k (found q .below))
 
   abbrev way : Point3 → Way
-  way q = wayOf (hrtf s) (built .neighborhood) (found q .number) q
+  way q = wayIn built (found q .number) q
 
   -- the way does not depend on the filter that is filled
   abbrev unfilled : reader.Filter
@@ -108,12 +94,12 @@ module _ (n r t : ℕ) (xs : List Float) (left right near : List ℕ) (resp dela
       way-taken (suc n) r t xs resp delays rate (L .most) (L .positions) (L .ears) (L .taps) built refl unfilled q k (found q .below) (record { points = L .finite; query = f }) (ours k)
       (row-in xs n (L .most) left right holds angle radius (L .angle-step) k) (built .neighborhood) (rows k (found q .below))
 
-  outcomes : (q : Point3) → Finite q → (out : reader.Filter) → blend s out q (found q .number) ≡ told (way q) (filter built (q .x) (q .y) (q .z) out)
-  outcomes q f out =
+  filters : (q : Point3) → Finite q → (out : reader.Filter) → blend s out q (found q .number) ≡ told (way q) (filter built (q .x) (q .y) (q .z) out)
+  filters q f out =
       let k = found q .number in
       told-same (suc n) r t xs resp delays rate (L .most) (L .positions) (L .ears) (L .taps) built refl out q k (found q .below) (record { points = L .finite; query = f })
       (ours k) (row-in xs n (L .most) left right holds angle radius (L .angle-step) k) (built .neighborhood) near (rows k (found q .below)) (entries k (found q .below))
-      ∙ ap (told (way q)) (sym (filters q f out))
+      ∙ ap (told (way q)) (sym (fills q f out))
 
   filters-plain : (q : Point3) (out : reader.Filter) → «filter_nointerp» built (q .x) (q .y) (q .z) out ≡ heard (plain s out (found q .number))
   unfolding «filter_nointerp» nointerpAt «get_filter_nointerp»
@@ -149,13 +135,9 @@ module _ (n r t : ℕ) (xs : List Float) (left right near : List ℕ) (resp dela
         below = λ q. found q .below;
         port-finds = λ q. found q .in-port;
         source-finds = λ q. found q .in-source;
-        port-answers = answers;
-        port-moves = moved;
         source-moves = moves;
-        filters = filters;
-        way = way;
         goes = goes;
-        outcomes = outcomes;
+        filters = filters;
         filters-plain = filters-plain;
         by-number = by-number;
       }

@@ -11,15 +11,11 @@ use lib.Ieee.{Float}
 use Rattle.points.specs.declared.Point3.{Point3}
 use Rattle.points.specs.Points.{pointAt, Finite}
 use Rattle.kdtree.specs.Tree.{subtree}
-use Rattle.limits.specs.declared.Sizes.{Sizes}
-use Rattle.limits.specs.declared.TreeLengths.{TreeLengths}
-use Rattle.limits.specs.declared.Verdict.the-variants.{Fine}
 use Rattle.limits.specs.Allowed.{angleStepOk}
-use Rattle.limits.specs.Refusals.{verdictOf, findLines}
 use Rattle.lookup.specs.declared.Lookup.{Lookup}
 use Rattle.lookup.specs.declared.Located.the-variants.{At}
 use Rattle.lookup.specs.Build.{Links, lookupOf, buildOf}
-use Rattle.lookup.specs.Lookup.{clampedBy, locateOf, treeLengths, findOf, findMutOf, movedAs, pointIn, putPoint}
+use Rattle.lookup.specs.Lookup.{clampedBy, locateOf}
 use Rattle.neighbors.specs.Neighbors.{tableOf}
 use Rattle.interpolate.specs.Blend.{neighborsOf, Filter, extractOf, interpolateOf}
 use Rattle.source.specs.Rust.{Some}
@@ -30,7 +26,7 @@ use Rattle.source.specs.Interpolate.{interpolate, «get_filter_nointerp»}
 use Rattle.source.specs.Reader as reader
 use Rattle.source.specs.Reader.{Sofar, opened, filledOr, filter, «filter_nointerp»}
 use Rattle.source_laws.specs.Drawn.{boxed, flat, ported, hrtfOf, enteredAll, heard}
-use Rattle.source_laws.specs.Way.{Way, madeBy, told}
+use Rattle.source_laws.specs.Way.{wayIn, madeBy, told}
 
 -- a set's numbers and lists
 pub record Set : Type 0 where
@@ -69,13 +65,6 @@ pub record Loaded (s : Set) : Type 0 where
 abbrev pub hrtf : Set → Hrtf
 hrtf s = hrtfOf (s .m) (s .r) (s .n) (s .cartesian) (s .responses) (s .delays) (s .rate)
 
--- the sizes and the lengths that a call checks
-abbrev pub sizes : Set → Sizes
-sizes s = record { m = s .m; c = 3; r = s .r; n = s .n }
-
-abbrev pub lengths : Set → TreeLengths
-lengths s = treeLengths (s .cartesian) (s .left) (s .right)
-
 -- what the port looks up by
 abbrev pub look : Set → Lookup
 look s = lookupOf (s .cartesian) (s .m)
@@ -107,21 +96,15 @@ pub record SameAsSource (s : Set) : Type 0 where
   pub row : ℕ → Neighbors
   pub has-row : (k : ℕ) → k < s .m → get (sofar .neighborhood) k ≡ Some (row k)
   pub entries : (k : ℕ) → k < s .m → neighborsOf (s .neighbours) k ≡ enteredAll (row k)
-  -- the radius clamp and the number found, for any query: the port never refuses 9; and what find and find_mut answer where their checks pass
+  -- the radius clamp and the number found, for any query: the port never refuses 9
   pub clamp : (q : Point3) → «normalize_radius» (sofar .lookup) q ≡ clampedBy (look s) q
   pub number : Point3 → ℕ
   pub below : (q : Point3) → number q < s .m
   pub port-finds : (q : Point3) → locateOf (look s) (s .m) (s .cartesian) (s .left) (s .right) q ≡ At (number q)
   pub source-finds : (q : Point3) → find (sofar .lookup) q ≡ Some (number q)
-  pub port-answers : (q : Point3) → verdictOf (findLines (sizes s) (lengths s) q) ≡ Fine → findOf (look s) (sizes s) (s .cartesian) (s .left) (s .right) q ≡ At (number q)
-  pub port-moves : (l : List Float) → verdictOf (findLines (sizes s) (lengths s) (pointIn l)) ≡ Fine
-      → findMutOf (look s) (sizes s) (s .cartesian) (s .left) (s .right) l ≡ movedAs (At (number (pointIn l))) (putPoint l (clampedBy (look s) (pointIn l)))
   pub source-moves : (q : Point3) → «find_mut» (sofar .lookup) q ≡ record { answer = Some (number q); coordinate = clampedBy (look s) q }
-  -- the filters: samples of both outputs, and both delays in seconds
-  pub filters : (q : Point3) → Finite q → (out : reader.Filter) → filter sofar (q .x) (q .y) (q .z) out ≡ heard (blend s out q (number q))
-  -- exact, or blended of how many points: as the source goes
-  pub way : Point3 → Way
-  pub goes : (q : Point3) → Finite q → interpolate (sofar .hrtf) (sofar .neighborhood) (number q) q ≡ madeBy (sofar .hrtf) (number q) (way q)
-  pub outcomes : (q : Point3) → Finite q → (out : reader.Filter) → blend s out q (number q) ≡ told (way q) (filter sofar (q .x) (q .y) (q .z) out)
+  -- the filters: samples of both outputs, both delays in seconds, and exact or blended of how many points, as the source's interpolate goes
+  pub goes : (q : Point3) → Finite q → interpolate (sofar .hrtf) (sofar .neighborhood) (number q) q ≡ madeBy (sofar .hrtf) (number q) (wayIn sofar (number q) q)
+  pub filters : (q : Point3) → Finite q → (out : reader.Filter) → blend s out q (number q) ≡ told (wayIn sofar (number q) q) (filter sofar (q .x) (q .y) (q .z) out)
   pub filters-plain : (q : Point3) (out : reader.Filter) → «filter_nointerp» sofar (q .x) (q .y) (q .z) out ≡ heard (plain s out (number q))
   pub by-number : (k : ℕ) → k < s .m → (out : reader.Filter) → filledOr sofar out («get_filter_nointerp» (sofar .hrtf) k) ≡ heard (plain s out k)

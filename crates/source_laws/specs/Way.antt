@@ -33,6 +33,10 @@ wayOf hrtf neighborhood «nearest_idx» position =
     let «nearest_dist» = distance (triplet (hrtf .«source_position») («nearest_idx» * hrtf .c)) position in
     cond (lt «nearest_dist» «1e-6») exactly (wayBy hrtf (get neighborhood «nearest_idx») «nearest_idx» «nearest_dist» position)
 
+-- of an opened set
+abbrev pub wayIn : reader.Sofar → ℕ → Point3 → Way
+wayIn sofar «nearest_idx» position = wayOf (sofar .hrtf) (sofar .neighborhood) «nearest_idx» position
+
 -- what the source makes on each way
 unfoldable pub madeBy : Hrtf → ℕ → Way → Option InterpolatedFilter
 madeBy hrtf «nearest_idx» exactly = «extract_filter» hrtf «nearest_idx» (hrtf .n) (hrtf .r)

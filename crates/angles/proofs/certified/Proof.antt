@@ -3,7 +3,8 @@ use mathlib.Core.Path.{sym, subst}
 use Prim.Native.Nat.{ℕ, _≤_}
 use lib.Dec.{lit≤}
 use lib.Ieee.{ofBits}
-use Rattle.angles.proofs.Cert.{fixed-asks, below-word, cert-yes, cert-far}
+use Rattle.sines.proofs.Range.{below-word}
+use Rattle.angles.proofs.Cert.{fixed-asks, cert-yes, cert-far}
 use Rattle.angles.proofs.certified.Statement.{statement}
 use Rattle.angles.proofs.certified.Tie as tie
 

@@ -1,8 +1,8 @@
 -- `angles::cos_fix` meets its contract: the calls of `level` are the levels of `nest`. Assumes nothing.
 use native.Mathlib.Omega.{arith}
 use lib.Dec.{lit≤}
-use Rattle.angles.specs.Steps.{cosFix}
-use Rattle.angles.proofs.Bounds.{square-mul, square-le, level-le}
+use Rattle.sines.specs.Steps.{cosFix}
+use Rattle.sines.proofs.Bounds.{square-mul, square-le, level-le}
 use Rattle.angles.proofs.cos_fix.Statement.{statement}
 use Rattle.angles.proofs.cos_fix.Tie as tie
 
@@ -35,7 +35,7 @@ mul-result c = omega arith
 
 returns : tie.Need-returns
 unfolding cosFix
-returns c = cc
+returns c = rw (c .level7 .ensures, c .before .level6 .ensures, c .before .before .level5 .ensures, c .before .before .before .level4 .ensures, c .before .before .before .before .level3 .ensures, c .before .before .before .before .before .level2 .ensures, c .before .before .before .before .before .before .level .ensures)
 
 pub cos-fix-spec : {M : Type 1} → statement M
 cos-fix-spec = tie.close (tie.spec mul-t level-requires level-requires-2 level-requires-3 level-requires-4 level-requires-5 level-requires-6 level-requires-7 mul-result returns)

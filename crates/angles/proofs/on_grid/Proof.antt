@@ -1,10 +1,10 @@
 -- `angles::on_grid` meets its contract. Assumes nothing.
 use mathlib.Core.Path.{sym, subst}
 use Prim.Native.Nat.{ℕ, _<_}
-use Rattle.angles.specs.Steps.{rest}
+use Rattle.sines.specs.Steps.{rest}
 use Rattle.angles.specs.Arc.{gridTest}
-use Rattle.angles.proofs.Scan.{rest-lt, scan-le}
-use Rattle.angles.proofs.Bounds.{sin-got, cos-got}
+use Rattle.sines.proofs.Scan.{rest-lt, scan-le}
+use Rattle.sines.proofs.Bounds.{sin-got, cos-got}
 use native.Mathlib.Omega.{arith}
 use borrow.Author.Needs.{needs}
 use Rattle.angles.proofs.on_grid.Statement.{statement}

@@ -1,7 +1,7 @@
 -- `angles::sin_fix` meets its contract: the calls of `level` are the levels of `nest`. Assumes nothing.
 use lib.Dec.{lit≤}
-use Rattle.angles.specs.Steps.{sinFix}
-use Rattle.angles.proofs.Bounds.{square-mul, square-le, sin-mul, level-le}
+use Rattle.sines.specs.Steps.{sinFix}
+use Rattle.sines.proofs.Bounds.{square-mul, square-le, sin-mul, level-le}
 use Rattle.angles.proofs.sin_fix.Statement.{statement}
 use Rattle.angles.proofs.sin_fix.Tie as tie
 
@@ -31,7 +31,7 @@ mul-result c = record { fits = sin-mul (c .before .before .before .before .befor
 
 returns : tie.Need-returns
 unfolding sinFix
-returns c = cc
+returns c = rw (c .level6 .ensures, c .before .level5 .ensures, c .before .before .level4 .ensures, c .before .before .before .level3 .ensures, c .before .before .before .before .level2 .ensures, c .before .before .before .before .before .level .ensures)
 
 pub sin-fix-spec : {M : Type 1} → statement M
 sin-fix-spec = tie.close (tie.spec mul-t level-requires level-requires-2 level-requires-3 level-requires-4 level-requires-5 level-requires-6 mul-result returns)

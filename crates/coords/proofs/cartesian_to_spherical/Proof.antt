@@ -17,7 +17,7 @@ radius-requires c κs = search needs
 
 returns : tie.Need-returns
 unfolding sphericalOf
-returns c = cc
+returns c = rw (c .before .before .before .before .before .atan2 .ensures, c .before .atan22 .ensures, c .before .before .root .ensures, c .radius .ensures)
 
 pub cartesian-to-spherical-spec : {M : Type 1} → statement M
 cartesian-to-spherical-spec =

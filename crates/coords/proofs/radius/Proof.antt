@@ -8,7 +8,7 @@ root-requires c κs = search needs
 
 returns : tie.Need-returns
 unfolding radiusOf
-returns c = cc
+returns c = c .root .ensures
 
 pub radius-spec : {M : Type 1} → statement M
 radius-spec = tie.close (tie.spec root-requires returns)

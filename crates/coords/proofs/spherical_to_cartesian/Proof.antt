@@ -14,7 +14,7 @@ along-requires c κs = search needs
 
 returns : tie.Need-returns
 unfolding cartesianOf
-returns c = cc
+returns c = rw (c .along .ensures, c .before .turn-of2 .ensures, c .before .before .turn-of .ensures)
 
 pub spherical-to-cartesian-spec : {M : Type 1} → statement M
 spherical-to-cartesian-spec =

@@ -11,7 +11,7 @@ cos-requires c κs = search needs
 
 returns : tie.Need-returns
 unfolding turnOf
-returns c = cc
+returns c = rw (c .before .sin .ensures, c .cos .ensures)
 
 pub turn-of-spec : {M : Type 1} → statement M
 turn-of-spec = tie.close (tie.spec sin-requires cos-requires returns)

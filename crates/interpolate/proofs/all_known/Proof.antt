@@ -24,7 +24,7 @@ known-requires-6 c κs = search needs
 
 returns : tie.Need-returns
 unfolding allKnown
-returns c = cc
+returns c = rw (c .before .before .before .before .before .known .ensures, c .before .before .before .before .known2 .ensures, c .before .before .before .known3 .ensures, c .before .before .known4 .ensures, c .before .known5 .ensures, c .known6 .ensures)
 
 pub all-known-spec : {M : Type 1} → statement M
 all-known-spec =

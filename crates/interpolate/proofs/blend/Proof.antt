@@ -6,7 +6,7 @@ use Rattle.delays.specs.declared.Outcome.the-variants.{Blended}
 use Rattle.delays.specs.Delays.{secondsOf}
 use Rattle.mix.specs.Mix.{listOf}
 use Rattle.interpolate.specs.Blend.{blendDelay, blendOf}
-use Rattle.interpolate.proofs.Laws.{count-length}
+use Rattle.interpolate.proofs.Laws.{count-length, seconds}
 use borrow.Author.Needs.{needs}
 use Rattle.interpolate.proofs.blend.Statement.{statement}
 use Rattle.interpolate.proofs.blend.Tie as tie
@@ -40,8 +40,8 @@ unfolding blendOf
 returns c =
     let s = c .before .before .before .before .before .before .before .before .before .before .before .before .before .before .before .before in
     let a = s .args in
-    let l : c .before .seconds-of .result ≡ secondsOf (blendDelay (now (a .delays)) (a .m) (a .r) 0 (listOf (a .p))) (a .rate) = cc (c .before .seconds-of .ensures, c .before .before .before .blend-delay .ensures) in
-    let r : c .seconds-of2 .result ≡ secondsOf (blendDelay (now (a .delays)) (a .m) (a .r) 1 (listOf (a .p))) (a .rate) = cc (c .seconds-of2 .ensures, c .before .before .blend-delay2 .ensures) in
+    let l : c .before .seconds-of .result ≡ secondsOf (blendDelay (now (a .delays)) (a .m) (a .r) 0 (listOf (a .p))) (a .rate) = seconds (a .rate) (c .before .seconds-of .ensures) (c .before .before .before .blend-delay .ensures) in
+    let r : c .seconds-of2 .result ≡ secondsOf (blendDelay (now (a .delays)) (a .m) (a .r) 1 (listOf (a .p))) (a .rate) = seconds (a .rate) (c .seconds-of2 .ensures) (c .before .before .blend-delay2 .ensures) in
     let n : a .p .count ≡ length (listOf (a .p)) = sym (count-length (a .p) (s .pre .1 .four)) in
     λ i. record { answer = Blended (l i) (r i) (n i); left = (c .before .before .before .before .before .before .before .before .before .before .blend-ear .ensures) i; right = (c .before .before .before .before .before .before .blend-ear2 .ensures) i }
 

@@ -4,6 +4,7 @@ use denote.Ref.{now}
 use Rattle.delays.specs.declared.Outcome.the-variants.{Exact}
 use Rattle.delays.specs.Delays.{secondsOf}
 use Rattle.interpolate.specs.Blend.{plainDelay, extractOf}
+use Rattle.interpolate.proofs.Laws.{seconds}
 use borrow.Author.Needs.{needs}
 use Rattle.interpolate.proofs.extract_filter.Statement.{statement}
 use Rattle.interpolate.proofs.extract_filter.Tie as tie
@@ -36,8 +37,8 @@ returns : tie.Need-returns
 unfolding extractOf
 returns c =
     let a = c .before .before .before .before .before .before .before .before .before .before .before .before .before .before .before .before .args in
-    let l : c .before .seconds-of .result ≡ secondsOf (plainDelay (now (a .delays)) (a .m) (a .r) 0 (a .k)) (a .rate) = cc (c .before .seconds-of .ensures, c .before .before .before .plain-delay .ensures) in
-    let r : c .seconds-of2 .result ≡ secondsOf (plainDelay (now (a .delays)) (a .m) (a .r) 1 (a .k)) (a .rate) = cc (c .seconds-of2 .ensures, c .before .before .plain-delay2 .ensures) in
+    let l : c .before .seconds-of .result ≡ secondsOf (plainDelay (now (a .delays)) (a .m) (a .r) 0 (a .k)) (a .rate) = seconds (a .rate) (c .before .seconds-of .ensures) (c .before .before .before .plain-delay .ensures) in
+    let r : c .seconds-of2 .result ≡ secondsOf (plainDelay (now (a .delays)) (a .m) (a .r) 1 (a .k)) (a .rate) = seconds (a .rate) (c .seconds-of2 .ensures) (c .before .before .plain-delay2 .ensures) in
     λ i. record { answer = Exact (l i) (r i); left = (c .before .before .before .before .before .before .before .before .before .before .copy-ear .ensures) i; right = (c .before .before .before .before .before .before .copy-ear2 .ensures) i }
 
 pub extract-filter-spec : {M : Type 1} → statement M

@@ -10,100 +10,52 @@ use borrow.Author.Needs.{needs}
 use Rattle.interpolate.proofs.weighed.Statement.{statement}
 use Rattle.interpolate.proofs.weighed.Tie as tie
 
-mul-a : tie.Need-mul-a
-mul-a c = omega arith
+held-requires : tie.Need-held-requires
+held-requires c κs = search needs
 
-add-a : tie.Need-add-a
-add-a c = omega arith
+held-requires-2 : tie.Need-held-requires-2
+held-requires-2 c κs = search needs
 
-mul-a-2 : tie.Need-mul-a-2
-mul-a-2 c = omega arith
+held-requires-3 : tie.Need-held-requires-3
+held-requires-3 c κs = search needs
 
-shared-slice-read-a : tie.Need-shared-slice-read-a
-shared-slice-read-a c = omega arith
-
-mul-b : tie.Need-mul-b
-mul-b c = omega arith
-
-add-b : tie.Need-add-b
-add-b c = omega arith
-
-mul-b-2 : tie.Need-mul-b-2
-mul-b-2 c = omega arith
-
-shared-slice-read-b : tie.Need-shared-slice-read-b
-shared-slice-read-b c = omega arith
-
-mul-c : tie.Need-mul-c
-mul-c c = omega arith
-
-add-c : tie.Need-add-c
-add-c c = omega arith
-
-mul-c-2 : tie.Need-mul-c-2
-mul-c-2 c = omega arith
-
-shared-slice-read-c : tie.Need-shared-slice-read-c
-shared-slice-read-c c = omega arith
-
-mul-d : tie.Need-mul-d
-mul-d c = omega arith
-
-add-d : tie.Need-add-d
-add-d c = omega arith
-
-mul-d-2 : tie.Need-mul-d-2
-mul-d-2 c = omega arith
-
-shared-slice-read-d : tie.Need-shared-slice-read-d
-shared-slice-read-d c = omega arith
+held-requires-4 : tie.Need-held-requires-4
+held-requires-4 c κs = search needs
 
 returns : tie.Need-returns
 unfolding sums ofBits
 returns c =
-    let a = c .before .before .before .before .before .before .before .before .before .before .before .before .before .args in
-    sums-at (a .p) (delayAt (now (a .delays)) (a .s)) 1 (c .match .keys1)
+    let a = c .before .before .before .before .before .before .before .before .before .before .args in
+    rw (c .before .before .before .before .before .before .before .before .held .ensures) (sums-at (a .p) (delayAt (now (a .delays)) (a .s)) 1 (c .match .keys1))
 
 returns-2 : tie.Need-returns-2
 unfolding sums ofBits
 returns-2 c =
-    let a = c .before .before .before .before .before .before .before .before .before .before .before .before .before .args in
-    sums-at (a .p) (delayAt (now (a .delays)) (a .s)) 2 (c .match .keys2)
+    let a = c .before .before .before .before .before .before .before .before .before .before .args in
+    rw (c .before .before .before .before .before .before .before .before .held .ensures, c .before .before .before .before .before .before .held2 .ensures) (sums-at (a .p) (delayAt (now (a .delays)) (a .s)) 2 (c .match .keys2))
 
 returns-3 : tie.Need-returns-3
 unfolding sums ofBits
 returns-3 c =
-    let a = c .before .before .before .before .before .before .before .before .before .before .before .before .before .args in
-    sums-at (a .p) (delayAt (now (a .delays)) (a .s)) 3 (c .match .keys3)
+    let a = c .before .before .before .before .before .before .before .before .before .before .args in
+    rw (c .before .before .before .before .before .before .before .before .held .ensures, c .before .before .before .before .before .before .held2 .ensures, c .before .before .before .before .held3 .ensures) (sums-at (a .p) (delayAt (now (a .delays)) (a .s)) 3 (c .match .keys3))
 
 returns-4 : tie.Need-returns-4
 unfolding sums ofBits
 returns-4 c =
-    let s = c .before .before .before .before .before .before .before .before .before .before .before .before .before in
+    let s = c .before .before .before .before .before .before .before .before .before .before in
     let a = s .args in
     let e : a .p .count ≡ 4 = omega (arith, c .match .rest, s .pre .0, s .pre .1) in
-    sums-at (a .p) (delayAt (now (a .delays)) (a .s)) 4 e
+    rw (c .before .before .before .before .before .before .before .before .held .ensures, c .before .before .before .before .before .before .held2 .ensures, c .before .before .before .before .held3 .ensures, c .before .before .held4 .ensures) (sums-at (a .p) (delayAt (now (a .delays)) (a .s)) 4 e)
 
 pub weighed-spec : {M : Type 1} → statement M
 weighed-spec =
     tie.close
     (tie.spec
-    mul-a
-    add-a
-    mul-a-2
-    shared-slice-read-a
-    mul-b
-    add-b
-    mul-b-2
-    shared-slice-read-b
-    mul-c
-    add-c
-    mul-c-2
-    shared-slice-read-c
-    mul-d
-    add-d
-    mul-d-2
-    shared-slice-read-d
+    held-requires
+    held-requires-2
+    held-requires-3
+    held-requires-4
     returns
     returns-2
     returns-3

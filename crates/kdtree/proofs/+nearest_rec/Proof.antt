@@ -4,40 +4,43 @@ use mathlib.Core.Logic.{⊎-elim}
 use Prim.Native.Nat.{ℕ, _<_, _-_}
 use native.Mathlib.Omega.{arith}
 use denote.Ref.{now}
+use Rattle.points.specs.Points.{pointAt}
 use Rattle.kdtree.specs.declared.Best.{Best}
 use Rattle.kdtree.specs.declared.Searched.{Searched}
-use Rattle.kdtree.specs.Search.{visited}
+use Rattle.kdtree.specs.Search.{visited, bestOf}
 use Rattle.kdtree.proofs.Step as step
 use borrow.Fn.Kinds.{In}
 use borrow.Fn.PlainCycle.{Measures, is, falls, and}
 use Rattle.kdtree.proofs.nearest_rec.Reads as nearest-rec′
 use Rattle.kdtree.proofs.nearest_rec.Kinds as nearest-rec-kinds
 use Rattle.kdtree.proofs.+nearest_rec.Lts-nearest_rec as nearest-rec-lts
-use Rattle.kdtree.proofs.better.Reads as better-reads
 use Rattle.kdtree.proofs.BoundingBox.dist_sq.Reads as BoundingBox-dist-sq-reads
-use Rattle.kdtree.proofs.coord.Reads as coord-reads
-use Rattle.points.proofs.dist_sq.Reads as dist-sq-reads
+use Rattle.kdtree.proofs.better.Reads as better-reads
+use Rattle.kdtree.proofs.dist_at.Reads as dist-at-reads
+use Rattle.kdtree.proofs.either.Reads as either-reads
 use Rattle.kdtree.proofs.farther_box.Reads as farther-box-reads
+use Rattle.kdtree.proofs.found.Reads as found-reads
+use Rattle.kdtree.proofs.left_first.Reads as left-first-reads
 use Rattle.kdtree.proofs.link_of.Reads as link-of-reads
 use Rattle.kdtree.proofs.nearer_box.Reads as nearer-box-reads
-use Rattle.kdtree.proofs.left_first.Reads as left-first-reads
 use Rattle.kdtree.proofs.next_axis.Reads as next-axis-reads
-use Rattle.kdtree.proofs.pick.Reads as pick-reads
-use Rattle.points.proofs.point_at.Reads as point-at-reads
+use Rattle.kdtree.proofs.place_coord.Reads as place-coord-reads
+use Rattle.kdtree.proofs.query_coord.Reads as query-coord-reads
+use Rattle.kdtree.proofs.query_point.Reads as query-point-reads
 use Rattle.kdtree.proofs.+nearest_rec.{statement}
 use Rattle.kdtree.proofs.+nearest_rec.Tie.{close}
 
-abbrev μ-nearest-rec : Measures 3 nearest-rec-kinds.ps ℕ
+abbrev μ-nearest-rec : Measures 4 nearest-rec-kinds.ps ℕ
 μ-nearest-rec κs a = a .1 .1 .1 .0 - a .1 .1 .1 .1 .1 .1 .0
 
-abbrev nearest-rec-at : ℕ → In 3 nearest-rec-kinds.ps
-nearest-rec-at t = and 3 nearest-rec-kinds.ps (is 3 nearest-rec-kinds.ps μ-nearest-rec t) nearest-rec′.Pre
+abbrev nearest-rec-at : ℕ → In 4 nearest-rec-kinds.ps
+nearest-rec-at t = and 4 nearest-rec-kinds.ps (is 4 nearest-rec-kinds.ps μ-nearest-rec t) nearest-rec′.Pre
 
-abbrev nearest-rec-below : ℕ → In 3 nearest-rec-kinds.ps
-nearest-rec-below t = and 3 nearest-rec-kinds.ps (falls 3 nearest-rec-kinds.ps _<_ μ-nearest-rec t) nearest-rec′.Pre
+abbrev nearest-rec-below : ℕ → In 4 nearest-rec-kinds.ps
+nearest-rec-below t = and 4 nearest-rec-kinds.ps (falls 4 nearest-rec-kinds.ps _<_ μ-nearest-rec t) nearest-rec′.Pre
 
 abbrev claims : ℕ → nearest-rec-lts.Claims
-claims t = (point-at-reads.Asked, point-at-reads.Learnt, coord-reads.Asked, coord-reads.Learnt, left-first-reads.Asked, left-first-reads.Learnt, next-axis-reads.Asked, next-axis-reads.Learnt, pick-reads.Asked, pick-reads.Learnt, link-of-reads.Asked, link-of-reads.Learnt, nearer-box-reads.Asked, nearer-box-reads.Learnt, nearest-rec-below t, nearest-rec′.Post, dist-sq-reads.Asked, dist-sq-reads.Learnt, better-reads.Asked, better-reads.Learnt, farther-box-reads.Asked, farther-box-reads.Learnt, BoundingBox-dist-sq-reads.Asked, BoundingBox-dist-sq-reads.Learnt)
+claims t = (place-coord-reads.Asked, place-coord-reads.Learnt, query-coord-reads.Asked, query-coord-reads.Learnt, left-first-reads.Asked, left-first-reads.Learnt, next-axis-reads.Asked, next-axis-reads.Learnt, either-reads.Asked, either-reads.Learnt, link-of-reads.Asked, link-of-reads.Learnt, found-reads.Asked, found-reads.Learnt, nearer-box-reads.Asked, nearer-box-reads.Learnt, nearest-rec-below t, nearest-rec′.Post, dist-at-reads.Asked, dist-at-reads.Learnt, better-reads.Asked, better-reads.Learnt, farther-box-reads.Asked, farther-box-reads.Learnt, query-point-reads.Asked, query-point-reads.Learnt, BoundingBox-dist-sq-reads.Asked, BoundingBox-dist-sq-reads.Learnt)
 
 -- the place past the nearer link's test, and what is known there
 abbrev Place : ℕ → Type 0
@@ -50,40 +53,44 @@ module _ (t : ℕ) (c : Place t) where
   abbrev Here : Type 0
   Here =
       let a = st t c .args in
-      step.Here (now (a .left)) (now (a .right)) (now (a .positions)) (a .count) (a .q) (a .node) (a .rect) (a .axis) (a .best)
+      step.Here (now (a .left)) (now (a .right)) (now (a .xs)) (a .m) (pointAt (now (a .q)) 0) (a .node) (a .rect) (a .axis) (bestOf (a .dist) (a .place) (a .visits))
 
   abbrev here : Here
-  here = record {
-    p = c .before .before .before .before .before .before .point-at .result;
-    v = c .before .before .before .before .before .coord .result;
-    g = c .before .before .before .before .left-first .result;
-    nx = c .before .before .before .next-axis .result;
-    below = st t c .pre .1 .0;
-    room = c .before .before .before .before .before .before .before .if1 .left;
-    ep = c .before .before .before .before .before .before .point-at .ensures;
-    ev = c .before .before .before .before .before .coord .ensures;
-    eg = c .before .before .before .before .left-first .ensures;
-    en = c .before .before .before .next-axis .ensures;
-  }
+  here =
+      let a = st t c .args in
+      let x = c .before .before .before .before .before .before .query-coord in
+      let v = c .before .before .before .before .before .before .before .place-coord in
+      let g = c .before .before .before .before .before .left-first in
+      record {
+        v = v .result;
+        g = g .result;
+        nx = c .before .before .before .before .next-axis .result;
+        below = st t c .pre .1 .0;
+        room = c .before .before .before .before .before .before .before .before .if1 .left;
+        ev = v .ensures;
+        eg = step.first-left (pointAt (now (a .q)) 0) (pointAt (now (a .xs)) (a .node)) (a .axis) (x .result) (v .result) (g .result) (x .ensures) (v .ensures) (g .ensures);
+        en = c .before .before .before .before .next-axis .ensures;
+      }
 
 -- where the three ways of the nearer side meet: what they answered is what the specification answers there
 came : (t : ℕ) (c : nearest-rec-lts.At-match-came (claims t) (nearest-rec-at t) nearest-rec′.Post)
     → (let a = st t (c .before) .args in
-    step.Near (now (a .left)) (now (a .right)) (now (a .positions)) (a .count) (a .q) (a .node) (a .rect) (a .axis) (a .best) (here t (c .before)) (c .match .after))
+    step.Near (now (a .left)) (now (a .right)) (now (a .xs)) (a .m) (pointAt (now (a .q)) 0) (a .node) (a .rect) (a .axis) (bestOf (a .dist) (a .place) (a .visits)) (here t (c .before)) (c .match .after))
 unfolding visited
 came t c =
     let o = c .before in
     let a = st t o .args in
-    let l = o .before .pick .result in
+    let l = o .before .either .result in
     let lk = o .link-of .result in
-    let el = o .before .pick .ensures in
+    let el = o .before .either .ensures in
     let ek = o .link-of .ensures in
     ⊎-elim
-    (λ x. λ k hk. x .2 ∙ step.near-gone (now (a .left)) (now (a .right)) (now (a .positions)) (a .count) (a .q) (a .node) (a .rect) (a .axis) (a .best) (here t o) l lk el ek (x .1 .given .1) k hk)
+    (λ x. λ k hk. x .3
+    ∙ (x .2 .ensures ∙ step.near-gone (now (a .left)) (now (a .right)) (now (a .xs)) (a .m) (pointAt (now (a .q)) 0) (a .node) (a .rect) (a .axis) (bestOf (a .dist) (a .place) (a .visits)) (here t o) l lk el ek (x .1 .given .1) k hk))
     (⊎-elim
     (λ x. λ k hk. x .5
-    ∙ step.near-to (now (a .left)) (now (a .right)) (now (a .positions)) (a .count) (a .q) (a .node) (a .rect) (a .axis) (a .best) (here t o) l (x .1 .given .0 .0) lk (x .3 .result) (x .4 .result) el ek (x .1 .given .1) (x .3 .ensures) (x .4 .ensures) k hk)
-    (λ x. λ k hk. x .2 ∙ step.near-bad (now (a .left)) (now (a .right)) (now (a .positions)) (a .count) (a .q) (a .node) (a .rect) (a .axis) (a .best) (here t o) l lk el ek (x .1 .given .1) k hk))
+    ∙ step.near-to (now (a .left)) (now (a .right)) (now (a .xs)) (a .m) (pointAt (now (a .q)) 0) (a .node) (a .rect) (a .axis) (bestOf (a .dist) (a .place) (a .visits)) (here t o) l (x .1 .given .0 .0) lk (x .3 .result) (x .4 .result) el ek (x .1 .given .1) (x .3 .ensures) (x .4 .ensures) k hk)
+    (λ x. λ k hk. x .2 ∙ step.near-bad (now (a .left)) (now (a .right)) (now (a .xs)) (a .m) (pointAt (now (a .q)) 0) (a .node) (a .rect) (a .axis) (bestOf (a .dist) (a .place) (a .visits)) (here t o) l lk el ek (x .1 .given .1) k hk))
     (c .match .came)
 
 -- the place past the farther link's test, the best after the nearer side, and what is known there
@@ -91,31 +98,27 @@ abbrev Place2 : ℕ → Type 0
 Place2 t = nearest-rec-lts.After-link-of2 (claims t) (nearest-rec-at t) nearest-rec′.Post
 
 abbrev met : (t : ℕ) → Place2 t → nearest-rec-lts.At-match-came (claims t) (nearest-rec-at t) nearest-rec′.Post
-met t c = c .before .before .before .before .before .before .before .before .before
+met t c = c .before .before .before .before .before .before .before
 
 module _ (t : ℕ) (c : Place2 t) where
   abbrev best : Best
-  best = c .before .before .before .before .before .before .before .after .given .0 .0
+  best = c .before .before .before .before .before .after .given .0 .0
 
   abbrev There : Type 0
   There =
       let o = met t c .before in
       let a = st t o .args in
-      step.There (now (a .left)) (now (a .right)) (now (a .positions)) (a .count) (a .q) (a .node) (a .rect) (a .axis) (a .best) (here t o) best
+      step.There (now (a .left)) (now (a .right)) (now (a .xs)) (a .m) (pointAt (now (a .q)) 0) (a .node) (a .rect) (a .axis) (bestOf (a .dist) (a .place) (a .visits)) (here t o) best
 
   abbrev there : There
   there = record {
-    p = c .before .before .before .before .before .point-at2 .result;
-    v = c .before .before .before .before .coord2 .result;
-    d = c .before .before .before .dist-sq .result;
+    d = c .before .before .before .dist-at .result;
     best = c .before .before .better .result;
-    l = c .before .pick2 .result;
+    l = c .before .either2 .result;
     lk = c .link-of2 .result;
-    ep = c .before .before .before .before .before .point-at2 .ensures;
-    ev = c .before .before .before .before .coord2 .ensures;
-    ed = c .before .before .before .dist-sq .ensures;
+    ed = c .before .before .before .dist-at .ensures;
     eb = c .before .before .better .ensures;
-    el = c .before .pick2 .ensures;
+    el = c .before .either2 .ensures;
     ek = c .link-of2 .ensures;
   }
 
@@ -123,29 +126,26 @@ module _ (t : ℕ) (c : Place2 t) where
   ends : (r : Searched)
       → (let o = met t c .before in
       let a = st t o .args in
-      step.Far (now (a .left)) (now (a .right)) (now (a .positions)) (a .count) (a .q) (a .node) (a .rect) (a .axis) (a .best) (here t o) best r)
+      step.Far (now (a .left)) (now (a .right)) (now (a .xs)) (a .m) (pointAt (now (a .q)) 0) (a .node) (a .rect) (a .axis) (bestOf (a .dist) (a .place) (a .visits)) (here t o) best r)
       → (let a = st t (met t c .before) .args in
-      step.After (now (a .left)) (now (a .right)) (now (a .positions)) (a .count) (a .q) (a .node) (a .rect) (a .axis) (a .best) r)
+      step.After (now (a .left)) (now (a .right)) (now (a .xs)) (a .m) (pointAt (now (a .q)) 0) (a .node) (a .rect) (a .axis) (bestOf (a .dist) (a .place) (a .visits)) r)
   ends r f =
       let m = met t c in
       let o = m .before in
       let a = st t o .args in
-      step.went-on (now (a .left)) (now (a .right)) (now (a .positions)) (a .count) (a .q) (a .node) (a .rect) (a .axis) (a .best) (here t o) (m .match .after) best r (came t m) (c .before .before .before .before .before .before .before .after .given .1) f
-
-nearest-rec-cast-visits : (t : ℕ) → nearest-rec-lts.Need-cast-visits (claims t) (nearest-rec-at t) nearest-rec′.Post
-nearest-rec-cast-visits t c = search needs
+      step.went-on (now (a .left)) (now (a .right)) (now (a .xs)) (a .m) (pointAt (now (a .q)) 0) (a .node) (a .rect) (a .axis) (bestOf (a .dist) (a .place) (a .visits)) (here t o) (m .match .after) best r (came t m) (c .before .before .before .before .before .after .given .1) f
 
 nearest-rec-returns : (t : ℕ) → nearest-rec-lts.Need-returns (claims t) (nearest-rec-at t) nearest-rec′.Post
 nearest-rec-returns t c =
-    let z = c .before .before .before .before .before in
+    let z = c .before .before .before .before in
     let a = z .args in
-    step.full (now (a .left)) (now (a .right)) (now (a .positions)) (a .count) (a .q) (a .node) (a .rect) (a .axis) (a .best) (z .pre .1 .0) (c .if1 .taken)
+    step.full (now (a .left)) (now (a .right)) (now (a .xs)) (a .m) (pointAt (now (a .q)) 0) (a .node) (a .rect) (a .axis) (bestOf (a .dist) (a .place) (a .visits)) (z .pre .1 .0) (c .if1 .taken)
 
-nearest-rec-point-at-requires : (t : ℕ) → nearest-rec-lts.Need-point-at-requires (claims t) (nearest-rec-at t) nearest-rec′.Post
-nearest-rec-point-at-requires t c κs = search needs
+nearest-rec-place-coord-requires : (t : ℕ) → nearest-rec-lts.Need-place-coord-requires (claims t) (nearest-rec-at t) nearest-rec′.Post
+nearest-rec-place-coord-requires t c κs = search needs
 
-nearest-rec-coord-requires : (t : ℕ) → nearest-rec-lts.Need-coord-requires (claims t) (nearest-rec-at t) nearest-rec′.Post
-nearest-rec-coord-requires t c κs = search needs
+nearest-rec-query-coord-requires : (t : ℕ) → nearest-rec-lts.Need-query-coord-requires (claims t) (nearest-rec-at t) nearest-rec′.Post
+nearest-rec-query-coord-requires t c κs = search needs
 
 nearest-rec-left-first-requires : (t : ℕ) → nearest-rec-lts.Need-left-first-requires (claims t) (nearest-rec-at t) nearest-rec′.Post
 nearest-rec-left-first-requires t c κs = search needs
@@ -153,17 +153,32 @@ nearest-rec-left-first-requires t c κs = search needs
 nearest-rec-next-axis-requires : (t : ℕ) → nearest-rec-lts.Need-next-axis-requires (claims t) (nearest-rec-at t) nearest-rec′.Post
 nearest-rec-next-axis-requires t c κs = search needs
 
-nearest-rec-add-better : (t : ℕ) → nearest-rec-lts.Need-add-better (claims t) (nearest-rec-at t) nearest-rec′.Post
-nearest-rec-add-better t c = search needs
+nearest-rec-add-seen : (t : ℕ) → nearest-rec-lts.Need-add-seen (claims t) (nearest-rec-at t) nearest-rec′.Post
+nearest-rec-add-seen t c = search needs
 
-nearest-rec-pick-requires : (t : ℕ) → nearest-rec-lts.Need-pick-requires (claims t) (nearest-rec-at t) nearest-rec′.Post
-nearest-rec-pick-requires t c κs = search needs
+nearest-rec-mul-l : (t : ℕ) → nearest-rec-lts.Need-mul-l (claims t) (nearest-rec-at t) nearest-rec′.Post
+nearest-rec-mul-l t c = search needs
+
+nearest-rec-shared-slice-read-l : (t : ℕ) → nearest-rec-lts.Need-shared-slice-read-l (claims t) (nearest-rec-at t) nearest-rec′.Post
+nearest-rec-shared-slice-read-l t c = search needs
+
+nearest-rec-mul-r : (t : ℕ) → nearest-rec-lts.Need-mul-r (claims t) (nearest-rec-at t) nearest-rec′.Post
+nearest-rec-mul-r t c = search needs
+
+nearest-rec-shared-slice-read-r : (t : ℕ) → nearest-rec-lts.Need-shared-slice-read-r (claims t) (nearest-rec-at t) nearest-rec′.Post
+nearest-rec-shared-slice-read-r t c = search needs
+
+nearest-rec-either-requires : (t : ℕ) → nearest-rec-lts.Need-either-requires (claims t) (nearest-rec-at t) nearest-rec′.Post
+nearest-rec-either-requires t c κs = search needs
 
 nearest-rec-link-of-requires : (t : ℕ) → nearest-rec-lts.Need-link-of-requires (claims t) (nearest-rec-at t) nearest-rec′.Post
 nearest-rec-link-of-requires t c κs = search needs
 
 nearest-rec-enum-told : (t : ℕ) → nearest-rec-lts.Need-enum-told (claims t) (nearest-rec-at t) nearest-rec′.Post
 nearest-rec-enum-told t c = search needs
+
+nearest-rec-found-requires : (t : ℕ) → nearest-rec-lts.Need-found-requires (claims t) (nearest-rec-at t) nearest-rec′.Post
+nearest-rec-found-requires t c κs = search needs
 
 nearest-rec-enum-known-n : (t : ℕ) → nearest-rec-lts.Need-enum-known-n (claims t) (nearest-rec-at t) nearest-rec′.Post
 nearest-rec-enum-known-n t c = search needs
@@ -173,11 +188,13 @@ nearest-rec-nearer-box-requires t c κs = search needs
 
 nearest-rec-nearest-rec-requires : (t : ℕ) → nearest-rec-lts.Need-nearest-rec-requires (claims t) (nearest-rec-at t) nearest-rec′.Post
 nearest-rec-nearest-rec-requires t c κs =
-    let o = c .before .before .before .before in
+    let k = c .before .before .before .before in
+    let o = k in
     let a = st t o .args in
-    let i = step.link-to (a .count) (a .node) (o .before .pick .result) (c .before .before .n .given .0 .0) (sym (c .before .before .n .given .1) ∙ o .link-of .ensures) in
+    let m = c .before .before .n in
+    let i = step.link-to (a .m) (a .node) (k .before .either .result) (m .given .0 .0) (sym (m .given .1) ∙ k .link-of .ensures) in
     let h = st t o .pre in
-    (omega arith, (i .below, h .1 .1, h .1 .2, h .1 .3, h .1 .4))
+    (omega arith, (i .below, h .1 .1, h .1 .2, h .1 .3, h .1 .4, step.next-below (a .axis) (here t o .nx) (here t o .en)))
 
 nearest-rec-enum-told-2 : (t : ℕ) → nearest-rec-lts.Need-enum-told-2 (claims t) (nearest-rec-at t) nearest-rec′.Post
 nearest-rec-enum-told-2 t c = search needs
@@ -192,31 +209,23 @@ nearest-rec-returns-2 : (t : ℕ) → nearest-rec-lts.Need-returns-2 (claims t) 
 nearest-rec-returns-2 t c =
     let m = c .before .before in
     let a = st t (m .before) .args in
-    step.stopped (now (a .left)) (now (a .right)) (now (a .positions)) (a .count) (a .q) (a .node) (a .rect) (a .axis) (a .best) (here t (m .before)) (m .match .after) (came t m) (c .enum-told3 .given .1)
-
-nearest-rec-point-at-requires-2 : (t : ℕ) → nearest-rec-lts.Need-point-at-requires-2 (claims t) (nearest-rec-at t) nearest-rec′.Post
-nearest-rec-point-at-requires-2 t c κs =
-    let h = st t (c .before .before .before .before) .pre in
-    omega arith
-
-nearest-rec-coord-requires-2 : (t : ℕ) → nearest-rec-lts.Need-coord-requires-2 (claims t) (nearest-rec-at t) nearest-rec′.Post
-nearest-rec-coord-requires-2 t c κs = search needs
+    step.stopped (now (a .left)) (now (a .right)) (now (a .xs)) (a .m) (pointAt (now (a .q)) 0) (a .node) (a .rect) (a .axis) (bestOf (a .dist) (a .place) (a .visits)) (here t (m .before)) (m .match .after) (came t m) (c .enum-told3 .given .1)
 
 nearest-rec-cast-better : (t : ℕ) → nearest-rec-lts.Need-cast-better (claims t) (nearest-rec-at t) nearest-rec′.Post
 nearest-rec-cast-better t c =
-    let h = st t (c .before .before .before .before .before .before) .pre in
+    let h = st t (c .before .before .before .before) .pre in
     omega arith
 
-nearest-rec-dist-sq-requires : (t : ℕ) → nearest-rec-lts.Need-dist-sq-requires (claims t) (nearest-rec-at t) nearest-rec′.Post
-nearest-rec-dist-sq-requires t c κs = search needs
+nearest-rec-dist-at-requires : (t : ℕ) → nearest-rec-lts.Need-dist-at-requires (claims t) (nearest-rec-at t) nearest-rec′.Post
+nearest-rec-dist-at-requires t c κs =
+    let h = st t (c .before .before .before .before) .pre in
+    omega arith
 
 nearest-rec-better-requires : (t : ℕ) → nearest-rec-lts.Need-better-requires (claims t) (nearest-rec-at t) nearest-rec′.Post
 nearest-rec-better-requires t c κs = search needs
 
-nearest-rec-pick-requires-2 : (t : ℕ) → nearest-rec-lts.Need-pick-requires-2 (claims t) (nearest-rec-at t) nearest-rec′.Post
-nearest-rec-pick-requires-2 t c κs =
-    let h = st t (c .before .before .before .before .before .before .before .before) .pre in
-    (omega arith, omega arith)
+nearest-rec-either-requires-2 : (t : ℕ) → nearest-rec-lts.Need-either-requires-2 (claims t) (nearest-rec-at t) nearest-rec′.Post
+nearest-rec-either-requires-2 t c κs = search needs
 
 nearest-rec-link-of-requires-2 : (t : ℕ) → nearest-rec-lts.Need-link-of-requires-2 (claims t) (nearest-rec-at t) nearest-rec′.Post
 nearest-rec-link-of-requires-2 t c κs = search needs
@@ -224,8 +233,22 @@ nearest-rec-link-of-requires-2 t c κs = search needs
 nearest-rec-enum-told-4 : (t : ℕ) → nearest-rec-lts.Need-enum-told-4 (claims t) (nearest-rec-at t) nearest-rec′.Post
 nearest-rec-enum-told-4 t c = search needs
 
+nearest-rec-returns-3 : (t : ℕ) → nearest-rec-lts.Need-returns-3 (claims t) (nearest-rec-at t) nearest-rec′.Post
+nearest-rec-returns-3 t c =
+    let k = c .before .before in
+    let o = met t k .before in
+    let a = st t o .args in
+    ends t k _ (step.far-gone (now (a .left)) (now (a .right)) (now (a .xs)) (a .m) (pointAt (now (a .q)) 0) (a .node) (a .rect) (a .axis) (bestOf (a .dist) (a .place) (a .visits)) (here t o) (best t k) (there t k) (c .enum-told4 .given .1))
+
 nearest-rec-enum-told-5 : (t : ℕ) → nearest-rec-lts.Need-enum-told-5 (claims t) (nearest-rec-at t) nearest-rec′.Post
 nearest-rec-enum-told-5 t c = search needs
+
+nearest-rec-returns-4 : (t : ℕ) → nearest-rec-lts.Need-returns-4 (claims t) (nearest-rec-at t) nearest-rec′.Post
+nearest-rec-returns-4 t c =
+    let k = c .before .before in
+    let o = met t k .before in
+    let a = st t o .args in
+    ends t k _ (step.far-bad (now (a .left)) (now (a .right)) (now (a .xs)) (a .m) (pointAt (now (a .q)) 0) (a .node) (a .rect) (a .axis) (bestOf (a .dist) (a .place) (a .visits)) (here t o) (best t k) (there t k) (c .enum-told5 .given .1))
 
 nearest-rec-enum-known-n-2 : (t : ℕ) → nearest-rec-lts.Need-enum-known-n-2 (claims t) (nearest-rec-at t) nearest-rec′.Post
 nearest-rec-enum-known-n-2 t c = search needs
@@ -233,60 +256,54 @@ nearest-rec-enum-known-n-2 t c = search needs
 nearest-rec-farther-box-requires : (t : ℕ) → nearest-rec-lts.Need-farther-box-requires (claims t) (nearest-rec-at t) nearest-rec′.Post
 nearest-rec-farther-box-requires t c κs = search needs
 
-nearest-rec-dist-sq-requires-2 : (t : ℕ) → nearest-rec-lts.Need-dist-sq-requires-2 (claims t) (nearest-rec-at t) nearest-rec′.Post
-nearest-rec-dist-sq-requires-2 t c κs = search needs
+nearest-rec-query-point-requires : (t : ℕ) → nearest-rec-lts.Need-query-point-requires (claims t) (nearest-rec-at t) nearest-rec′.Post
+nearest-rec-query-point-requires t c κs = search needs
+
+nearest-rec-dist-sq-requires : (t : ℕ) → nearest-rec-lts.Need-dist-sq-requires (claims t) (nearest-rec-at t) nearest-rec′.Post
+nearest-rec-dist-sq-requires t c κs = search needs
 
 nearest-rec-nearest-rec-requires-2 : (t : ℕ) → nearest-rec-lts.Need-nearest-rec-requires-2 (claims t) (nearest-rec-at t) nearest-rec′.Post
 nearest-rec-nearest-rec-requires-2 t c κs =
     let k = c .before .before .before .before .before .before .before in
     let o = met t k .before in
     let a = st t o .args in
-    let i = step.link-to (a .count) (a .node) (k .before .pick2 .result) (c .before .before .before .before .before .n2 .given .0 .0) (sym (c .before .before .before .before .before .n2 .given .1) ∙ k .link-of2 .ensures) in
+    let m = c .before .before .before .before .before .n2 in
+    let i = step.link-to (a .m) (a .node) (k .before .either2 .result) (m .given .0 .0) (sym (m .given .1) ∙ k .link-of2 .ensures) in
     let h = st t o .pre in
-    (omega arith, (i .below, h .1 .1, h .1 .2, h .1 .3, h .1 .4))
-
-nearest-rec-returns-3 : (t : ℕ) → nearest-rec-lts.Need-returns-3 (claims t) (nearest-rec-at t) nearest-rec′.Post
-nearest-rec-returns-3 t c =
-    let k = c .before .before in
-    let o = met t k .before in
-    let a = st t o .args in
-    ends t k _ (step.far-gone (now (a .left)) (now (a .right)) (now (a .positions)) (a .count) (a .q) (a .node) (a .rect) (a .axis) (a .best) (here t o) (best t k) (there t k) (c .enum-told4 .given .1))
-
-nearest-rec-returns-4 : (t : ℕ) → nearest-rec-lts.Need-returns-4 (claims t) (nearest-rec-at t) nearest-rec′.Post
-nearest-rec-returns-4 t c =
-    let k = c .before .before in
-    let o = met t k .before in
-    let a = st t o .args in
-    ends t k _ (step.far-bad (now (a .left)) (now (a .right)) (now (a .positions)) (a .count) (a .q) (a .node) (a .rect) (a .axis) (a .best) (here t o) (best t k) (there t k) (c .enum-told5 .given .1))
+    (omega arith, (i .below, h .1 .1, h .1 .2, h .1 .3, h .1 .4, step.next-below (a .axis) (here t o .nx) (here t o .en)))
 
 nearest-rec-returns-5 : (t : ℕ) → nearest-rec-lts.Need-returns-5 (claims t) (nearest-rec-at t) nearest-rec′.Post
 nearest-rec-returns-5 t c =
     let k = c .before .before .before .before .before .before .before .before in
     let o = met t k .before in
     let a = st t o .args in
-    ends t k _ (step.far-in (now (a .left)) (now (a .right)) (now (a .positions)) (a .count) (a .q) (a .node) (a .rect) (a .axis) (a .best) (here t o) (best t k) (there t k) (c .before .before .before .before .before .before .n2 .given .0 .0) (c .before .before .before .before .farther-box .result) (c .before .before .before .dist-sq2 .result) (c .nearest-rec2 .result) (c .before .before .before .before .before .before .n2 .given .1) (c .before .before .before .before .farther-box .ensures) (c .before .before .before .dist-sq2 .ensures) (c .before .if2 .taken) (c .nearest-rec2 .ensures))
+    ends t k _ (step.far-in (now (a .left)) (now (a .right)) (now (a .xs)) (a .m) (pointAt (now (a .q)) 0) (a .node) (a .rect) (a .axis) (bestOf (a .dist) (a .place) (a .visits)) (here t o) (best t k) (there t k) (c .before .before .before .before .before .before .n2 .given .0 .0) (c .before .before .before .before .farther-box .result) (c .before .before .before .query-point .result) (c .before .before .dist-sq .result) (c .nearest-rec2 .result) (c .before .before .before .before .before .before .n2 .given .1) (c .before .before .before .before .farther-box .ensures) (c .before .before .before .query-point .ensures) (c .before .before .dist-sq .ensures) (c .before .if2 .taken) (c .nearest-rec2 .ensures))
 
 nearest-rec-returns-6 : (t : ℕ) → nearest-rec-lts.Need-returns-6 (claims t) (nearest-rec-at t) nearest-rec′.Post
 nearest-rec-returns-6 t c =
     let k = c .before .before .before .before .before .before .before in
     let o = met t k .before in
     let a = st t o .args in
-    ends t k _ (step.far-out (now (a .left)) (now (a .right)) (now (a .positions)) (a .count) (a .q) (a .node) (a .rect) (a .axis) (a .best) (here t o) (best t k) (there t k) (c .before .before .before .before .before .n2 .given .0 .0) (c .before .before .before .farther-box .result) (c .before .before .dist-sq2 .result) (c .before .before .before .before .before .n2 .given .1) (c .before .before .before .farther-box .ensures) (c .before .before .dist-sq2 .ensures) (c .if2 .left))
+    ends t k _ (step.far-out (now (a .left)) (now (a .right)) (now (a .xs)) (a .m) (pointAt (now (a .q)) 0) (a .node) (a .rect) (a .axis) (bestOf (a .dist) (a .place) (a .visits)) (here t o) (best t k) (there t k) (c .before .before .before .before .before .n2 .given .0 .0) (c .before .before .before .farther-box .result) (c .before .before .query-point .result) (c .before .dist-sq .result) (c .before .before .before .before .before .n2 .given .1) (c .before .before .before .farther-box .ensures) (c .before .before .query-point .ensures) (c .before .dist-sq .ensures) (c .if2 .left))
 
 pub +nearest-rec-spec : {M : Type 1} → statement M
 +nearest-rec-spec = close μ-nearest-rec λ t. nearest-rec-lts.spec (claims t)
     (nearest-rec-at t)
     nearest-rec′.Post
-    (nearest-rec-cast-visits t)
     (nearest-rec-returns t)
-    (nearest-rec-point-at-requires t)
-    (nearest-rec-coord-requires t)
+    (nearest-rec-place-coord-requires t)
+    (nearest-rec-query-coord-requires t)
     (nearest-rec-left-first-requires t)
     (nearest-rec-next-axis-requires t)
-    (nearest-rec-add-better t)
-    (nearest-rec-pick-requires t)
+    (nearest-rec-add-seen t)
+    (nearest-rec-mul-l t)
+    (nearest-rec-shared-slice-read-l t)
+    (nearest-rec-mul-r t)
+    (nearest-rec-shared-slice-read-r t)
+    (nearest-rec-either-requires t)
     (nearest-rec-link-of-requires t)
     (nearest-rec-enum-told t)
+    (nearest-rec-found-requires t)
     (nearest-rec-enum-known-n t)
     (nearest-rec-nearer-box-requires t)
     (nearest-rec-nearest-rec-requires t)
@@ -294,20 +311,19 @@ pub +nearest-rec-spec : {M : Type 1} → statement M
     (nearest-rec-enum-known-after t)
     (nearest-rec-enum-told-3 t)
     (nearest-rec-returns-2 t)
-    (nearest-rec-point-at-requires-2 t)
-    (nearest-rec-coord-requires-2 t)
     (nearest-rec-cast-better t)
-    (nearest-rec-dist-sq-requires t)
+    (nearest-rec-dist-at-requires t)
     (nearest-rec-better-requires t)
-    (nearest-rec-pick-requires-2 t)
+    (nearest-rec-either-requires-2 t)
     (nearest-rec-link-of-requires-2 t)
     (nearest-rec-enum-told-4 t)
+    (nearest-rec-returns-3 t)
     (nearest-rec-enum-told-5 t)
+    (nearest-rec-returns-4 t)
     (nearest-rec-enum-known-n-2 t)
     (nearest-rec-farther-box-requires t)
-    (nearest-rec-dist-sq-requires-2 t)
+    (nearest-rec-query-point-requires t)
+    (nearest-rec-dist-sq-requires t)
     (nearest-rec-nearest-rec-requires-2 t)
-    (nearest-rec-returns-3 t)
-    (nearest-rec-returns-4 t)
     (nearest-rec-returns-5 t)
     (nearest-rec-returns-6 t)

@@ -1,6 +1,7 @@
 use mathlib.Core.Path.{_≡_}
 use Prim.Native.Nat.{ℕ, _-_, _≤_}
 use native.Mathlib.Omega.{arith}
+use Rattle.points.specs.Points.{pointAt}
 use Rattle.kdtree.specs.Nearest.{placeOf, startOf}
 use borrow.Author.Needs.{needs}
 use Rattle.kdtree.proofs.nearest_place.Statement.{statement}
@@ -16,8 +17,8 @@ nearest-rec-requires : tie.Need-nearest-rec-requires
 nearest-rec-requires c κs = search needs
 
 returns : tie.Need-returns
-unfolding placeOf startOf
-returns c = let n = c .before .before .before .before .before .before .args .count in let h : n - 0 ≤ n = omega arith in let e = c .nearest-rec .ensures n h in cc
+unfolding placeOf startOf pointAt
+returns c = let n = c .before .before .before .before .before .before .before .args .count in let h : n - 0 ≤ n = omega arith in let e = c .nearest-rec .ensures n h in cc
 
 pub nearest-place-spec : {M : Type 1} → statement M
 nearest-place-spec =

@@ -11,7 +11,7 @@ neighbours-fit-requires c κs = search needs
 
 returns : tie.Need-returns
 unfolding blendFits
-returns c = cc
+returns c = rw (c .before .plain-fits .ensures, c .neighbours-fit .ensures)
 
 pub blend-fits-spec : {M : Type 1} → statement M
 blend-fits-spec = tie.close (tie.spec plain-fits-requires neighbours-fit-requires returns)

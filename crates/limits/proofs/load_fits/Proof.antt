@@ -13,7 +13,7 @@ blend-fits-requires c κs = search needs
 
 returns : tie.Need-returns
 unfolding loadFits
-returns c = cc
+returns c = rw (c .blend-fits .ensures)
 
 pub load-fits-spec : {M : Type 1} → statement M
 load-fits-spec = tie.close (tie.spec mul-result blend-fits-requires returns)

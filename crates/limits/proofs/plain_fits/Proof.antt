@@ -11,7 +11,7 @@ responses-fit-requires c κs = search needs
 
 returns : tie.Need-returns
 unfolding plainFits
-returns c = cc
+returns c = rw (c .before .tree-fits .ensures, c .responses-fit .ensures)
 
 pub plain-fits-spec : {M : Type 1} → statement M
 plain-fits-spec = tie.close (tie.spec tree-fits-requires responses-fit-requires returns)

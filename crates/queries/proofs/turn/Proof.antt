@@ -1,9 +1,8 @@
 -- `queries::turn` meets its contract. Assumes nothing.
-use Prim.Native.Nat.{ℕ}
 use native.Mathlib.Omega.{arith}
 use mathlib.Core.Path.{sym, ap, subst, _∙_}
 use lib.Dec.{lit≤}
-use lib.ListN.{length, take, drop}
+use lib.ListN.{take, drop}
 use lib.Seq.{length-take-le}
 use denote.Ref.{now}
 use Rattle.loads.specs.Load.{workOf}
@@ -27,7 +26,7 @@ returns c =
     let w = workOf (now (a .left)) (now (a .right)) (now (a .neighbours)) (now (a .cartesian)) in
     let k = session (a .t .phase) d w in
     record {
-      same = all-over (length (now (a .buf))) (between k (take (a .t .used) (now (a .buf)))) (drop (a .at) (now (a .chunk))) (now (a .chunk)) (sym (c .before .is-over .ensures) ∙ c .if1 .taken);
+      same = all-over 40000 (between k (take (a .t .used) (now (a .buf)))) (drop (a .at) (now (a .chunk))) (now (a .chunk)) (sym (c .before .is-over .ensures) ∙ c .if1 .taken);
       sound = s .pre .1;
       next = omega arith;
       moves = λ h. h;
@@ -107,7 +106,7 @@ returns-2 c =
     let f = found-line (now (a .buf)) (now (a .chunk)) (a .at) _ _ _ (g .1) (n .ensures .within) in
     let t = c .before .before .before .before .before .before .before .before .before .before .before .before .before .before .before .before .before .before .before .before .take-line .ensures in
     record {
-      same = a-line (now (a .buf)) (n .last .1 .1 .0) (now (a .chunk)) k (a .at) (a .t .used) (n .result) (sym (c .before .before .before .before .before .before .before .before .before .before .before .before .before .before .before .before .before .before .before .before .before .before .before .before .before .before .before .before .before .before .before .before .before .before .before .before .before .before .before .before .is-over .ensures) ∙ c .before .before .before .before .before .before .before .before .before .before .before .before .before .before .before .before .before .before .before .before .before .before .before .before .before .before .before .before .before .before .before .before .before .before .before .before .before .before .before .if1 .left) (n .ensures .same) (g .0 .0) (g .0 .1 .0) (g .1) _ (t .same);
+      same = rw (s .pre .2) at (a-line (now (a .buf)) (n .last .1 .1 .0) (now (a .chunk)) k (a .at) (a .t .used) (n .result) (sym (c .before .before .before .before .before .before .before .before .before .before .before .before .before .before .before .before .before .before .before .before .before .before .before .before .before .before .before .before .before .before .before .before .before .before .before .before .before .before .before .before .is-over .ensures) ∙ c .before .before .before .before .before .before .before .before .before .before .before .before .before .before .before .before .before .before .before .before .before .before .before .before .before .before .before .before .before .before .before .before .before .before .before .before .before .before .before .if1 .left) (n .ensures .same) (g .0 .0) (g .0 .1 .0) (g .1) _ (t .same));
       sound = record { limits = subst SoundPhase (sym (ap (λ (t : Turn). t .session .phase) (t .same))) (turn-sound k (take (g .0 .1 .0) (n .last .1 .1 .0)) (s .pre .1 .limits)); used = lit≤ tt };
       next = f .2;
       moves = λ h. f .1;
@@ -128,7 +127,7 @@ returns-3 c =
     let g = c .before .n .given in
     let f = found-more (now (a .buf)) (now (a .chunk)) (a .at) _ _ (g .1) (n .ensures .within) in
     record {
-      same = no-line (now (a .buf)) (n .last .1 .1 .0) (now (a .chunk)) k (a .at) (a .t .used) (n .result) (sym (c .before .before .before .before .before .before .before .before .is-over .ensures) ∙ c .before .before .before .before .before .before .before .if1 .left) (n .ensures .same) (g .0 .0) (g .1);
+      same = rw (s .pre .2) at (no-line (now (a .buf)) (n .last .1 .1 .0) (now (a .chunk)) k (a .at) (a .t .used) (n .result) (sym (c .before .before .before .before .before .before .before .before .is-over .ensures) ∙ c .before .before .before .before .before .before .before .if1 .left) (n .ensures .same) (g .0 .0) (g .1));
       sound = record { limits = s .pre .1 .limits; used = omega (arith, f, s .pre .2) };
       next = omega arith;
       moves = λ h. h;
