@@ -149,7 +149,7 @@ fn of_set(set: Set, only: &str, take: &mut dyn FnMut(&mut Row)) {
         let mut sides = sides_of(&set);
         agree(&set, &mut sides, &queries);
         if n == 128 {
-            take(&mut sides_row(format!("load {label}"), 1, 24000 / set.m, &mut sides, |s| s.load()));
+            take(&mut sides_row(format!("load {label}"), 1, 4 + 40000 / set.m, &mut sides, |s| s.load()));
             take(&mut sides_row(format!("find {label}"), 64, 600, &mut sides, |s| {
                 for q in &queries {
                     black_box(s.find(*q));
