@@ -87,16 +87,8 @@ fn digit(d: u32) -> u8 {
     if x < 10 { 48 + x } else { 87 + x }
 }
 
-// A value's bits; every NaN has one pattern.
-fn bits_of(x: f32) -> u32 {
-    if x != x {
-        return 0x7fc0_0000;
-    }
-    f32::to_bits(x)
-}
-
 fn print_value(x: f32) {
-    let bits = bits_of(x);
+    let bits = floats::pattern(x);
     let text = [
         digit(bits / 0x1000_0000),
         digit(bits / 0x100_0000),

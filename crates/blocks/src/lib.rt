@@ -49,7 +49,7 @@ fn put_value(x: f32, out: &mut [u8], at: usize) -> usize
     requires { ⌜ Room at (valueText x) (now out) ⌝ }
     ensures { λ r. ⌜ Wrote at (valueText x) (now (out .entry)) r (now (out .exit)) ⌝ }
 {
-    text::put_hex(text::bits(x), &mut out[at..]);
+    text::put_hex(floats::pattern(x), &mut out[at..]);
     at + 8
 }
 

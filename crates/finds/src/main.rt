@@ -32,16 +32,9 @@ fn cartesian() -> [f32; 27] {
 
 // ---- printing
 
-fn bits_of(x: f32) -> u32 {
-    if x != x {
-        return 0x7fc0_0000;
-    }
-    f32::to_bits(x)
-}
-
 fn print_value(x: f32) {
     io::write_all(1, b" ");
-    io::print_hex(1, bits_of(x) as u64, 8);
+    io::print_hex(1, floats::pattern(x) as u64, 8);
 }
 
 fn print_number(n: u64) {

@@ -6,3 +6,4 @@ pub mod Ops
 pub mod Ratio
 pub mod Tests
 pub mod Ceiling
+pub mod Patterns

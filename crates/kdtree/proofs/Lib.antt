@@ -1,3 +1,4 @@
 pub mod Step
 pub mod Nodes
 pub mod Whole
+pub mod OneNumber

@@ -13,8 +13,8 @@ ghost use Prim.Native.Nat.{ℕ, _+_, _-_, _*_, _<_, _≤_};
 ghost use lib.ListN.{length, getD};
 ghost use Rattle.kdtree.specs.Geometry.{coordOf, nextAxis, outside, boxDistSq, boxAt, lower, upper, grown, withMin, withMax, goesLeft, leftFirst};
 ghost use Rattle.kdtree.specs.Tree.{linkOf, subtree};
-ghost use Rattle.kdtree.specs.Search.{search, improve, bestOf, nearerBox, fartherBox};
-ghost use Rattle.kdtree.specs.declared.Searched.the-variants.{Found};
+ghost use Rattle.kdtree.specs.Search.{search, improve, nearerBox, fartherBox};
+ghost use Rattle.kdtree.specs.Packed.{bestIn, searchedIn};
 ghost use Rattle.points.specs.Points.{pointAt, distSq};
 ghost use Rattle.floats.specs.Floats.{zero32};
 ghost use lib.Ieee.{binary32, sub, le};
@@ -215,7 +215,7 @@ fn pick(first: bool, a: &[u16], b: &[u16], n: usize) -> u16
 
 // ---- the search
 
-// The best place so far, its squared distance, and the visits so far. Small fields: a search keeps one for each level.
+// The best place so far, its squared distance, and the visits so far.
 pub struct Best {
     pub dist: f32,
     pub place: u16,
@@ -226,6 +226,42 @@ pub struct Best {
 pub enum Searched {
     Found(Best),
     Stopped,
+}
+
+const STOPPED: u64 = 65535;
+
+// A best in one number (`bestIn`, specs/Packed.antt), so that a level hands it on in a register and not through memory: the distance's
+// pattern, the place, the visits. 65535 visits say that the search stopped (`searchedIn`).
+fn packed(bits: u32, place: u16, visits: u16) -> u64
+    ensures { λ r. ⌜ r ≡ (bits * 65536 + place) * 65536 + visits ⌝ }
+{
+    (bits as u64 * 65536 + place as u64) * 65536 + visits as u64
+}
+
+fn dist_in(best: u64) -> f32
+    ensures { λ r. ⌜ r ≡ bestIn best .dist ⌝ }
+{
+    floats::value((best / 4294967296) as u32)
+}
+
+fn visits_in(best: u64) -> u16
+    ensures { λ r. ⌜ r ≡ bestIn best .visits ⌝ }
+{
+    (best % 65536) as u16
+}
+
+fn searched_in(best: u64) -> Searched
+    ensures { λ r. ⌜ r ≡ searchedIn best ⌝ }
+{
+    let visits = visits_in(best);
+    if visits == 65535 {
+        return Searched::Stopped;
+    }
+    Searched::Found(Best {
+        dist: dist_in(best),
+        place: (best / 65536 % 65536) as u16,
+        visits,
+    })
 }
 
 // The query stands in an array: a level of the search keeps one address of it, and reads a coordinate by the axis.
@@ -277,26 +313,12 @@ fn either(first: bool, a: u16, b: u16) -> u16
     if first { a } else { b }
 }
 
-fn found(dist: f32, place: u16, visits: u16) -> Searched
-    ensures { λ r. ⌜ r ≡ Found (bestOf dist place visits) ⌝ }
-{
-    Searched::Found(Best {
-        dist,
-        place,
-        visits,
-    })
-}
-
 // The node wins only if it is strictly nearer.
-fn better(n: u16, d: f32, best: Best) -> Best
-    ensures { λ r. ⌜ r ≡ improve n d best ⌝ }
+fn better(n: u16, d: f32, best: u64) -> u64
+    ensures { λ r. ⌜ bestIn r ≡ improve n d (bestIn best) ⌝ }
 {
-    if d < best.dist {
-        Best {
-            dist: d,
-            place: n,
-            visits: best.visits,
-        }
+    if d < dist_in(best) {
+        packed(f32::to_bits(d), n, visits_in(best))
     } else {
         best
     }
@@ -304,9 +326,9 @@ fn better(n: u16, d: f32, best: Best) -> Best
 
 // Nearer side, node, farther side.
 //
-// The best goes down as three numbers, and each answer leaves by a way of its own: a struct that is lent to a call has its place in
-// memory, and to put it together from its fields there and read it at once as a whole is slow. Both links are read before the side
-// is known, so that the next node need not wait for a second read. The node's point is read after the nearer side: a small frame.
+// All that needs no best is worked out before the nearer side: both boxes, since the same two tests choose their corners, and the two distances,
+// so that a level keeps two numbers of its six and its point, and after the nearer side only compares. Both links are read before the
+// side is known, so that the next node need not wait for a second read.
 fn nearest_rec(
     xs: &[f32],
     left: &[u16],
@@ -316,46 +338,43 @@ fn nearest_rec(
     rect: BoundingBox,
     node: usize,
     axis: u8,
-    dist: f32,
-    place: u16,
-    visits: u16,
-) -> Searched
+    best: u64,
+) -> u64
     requires { ⌜ (node < m) × (3 * m ≤ length (now xs)) × (m ≤ length (now left)) × (m ≤ length (now right)) × (m ≤ 16384) × (axis < 3) ⌝ }
     ensures { λ r. ⌜ ((f : ℕ) → m - node ≤ f
-        → r ≡ search m (pointAt (now (q .entry)) 0) (subtree (now (left .entry)) (now (right .entry)) (now (xs .entry)) m f node) rect axis (bestOf dist place visits)) ⌝ }
+        → searchedIn r ≡ search m (pointAt (now (q .entry)) 0) (subtree (now (left .entry)) (now (right .entry)) (now (xs .entry)) m f node) rect axis (bestIn best)) ⌝ }
 {
-    if m <= visits as usize {
-        return Searched::Stopped;
+    if m <= visits_in(best) as usize {
+        return STOPPED;
     }
     let v = place_coord(xs, node, axis);
     let go_left = left_first(query_coord(q, axis), v);
     let ax = next_axis(axis);
-    let seen = visits + 1;
     let l = left[node];
     let r = right[node];
-    let after = match link_of(m, node, either(go_left, l, r)) {
-        Link::Gone => found(dist, place, seen),
-        Link::To(n) => {
-            let near = nearer_box(rect, axis, v, go_left);
-            nearest_rec(xs, left, right, m, q, near, n, ax, dist, place, seen)
-        }
-        Link::Bad => Searched::Stopped,
+    let near = nearer_box(rect, axis, v, go_left);
+    let far = farther_box(rect, axis, v, go_left);
+    let to_far = far.dist_sq(query_point(q));
+    let d = dist_at(xs, node, q);
+    let seen = best + 1;
+    let t = match link_of(m, node, either(go_left, l, r)) {
+        Link::Gone => seen,
+        Link::To(n) => nearest_rec(xs, left, right, m, q, near, n, ax, seen),
+        Link::Bad => STOPPED,
     };
-    let Searched::Found(t) = after else {
-        return Searched::Stopped;
-    };
-    let b = better(node as u16, dist_at(xs, node, q), t);
+    if visits_in(t) == 65535 {
+        return STOPPED;
+    }
+    let b = better(node as u16, d, t);
     match link_of(m, node, either(go_left, r, l)) {
-        Link::Gone => return Searched::Found(b),
-        Link::Bad => return Searched::Stopped,
+        Link::Gone => return b,
+        Link::Bad => return STOPPED,
         Link::To(n) => {
-            let far = farther_box(rect, axis, v, go_left);
-            let d = b.dist;
-            if far.dist_sq(query_point(q)) < d {
-                let last = nearest_rec(xs, left, right, m, q, far, n, ax, d, b.place, b.visits);
+            if to_far < dist_in(b) {
+                let last = nearest_rec(xs, left, right, m, q, far, n, ax, b);
                 return last;
             }
-            return Searched::Found(b);
+            return b;
         }
     }
 }
@@ -375,19 +394,8 @@ pub fn nearest_place(
     let root = points::point_at(positions, 0);
     let start = points::dist_sq(root, q);
     let at = [q.x, q.y, q.z];
-    nearest_rec(
-        positions,
-        left,
-        right,
-        count,
-        &at,
-        bounds,
-        0,
-        0,
-        start,
-        0,
-        0,
-    )
+    let begun = packed(floats::pattern(start), 0, 0);
+    searched_in(nearest_rec(positions, left, right, count, &at, bounds, 0, 0, begun))
 }
 
 pub enum Named {

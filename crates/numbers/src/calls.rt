@@ -35,9 +35,9 @@ fn lent(
 
 fn point(x: u32, y: u32, z: u32) -> Point3 {
     Point3 {
-        x: show::value(x),
-        y: show::value(y),
-        z: show::value(z),
+        x: floats::value(x),
+        y: floats::value(y),
+        z: floats::value(z),
     }
 }
 
@@ -53,9 +53,9 @@ fn lengths(l: Lengths) {
 
 // One position, of the kind.
 fn load(kind: u32, m: usize, l: Lengths, p: Point3, astep: u32, rstep: u32, rate: u32) {
-    let a = show::value(astep);
-    let b = show::value(rstep);
-    let c = show::value(rate);
+    let a = floats::value(astep);
+    let b = floats::value(rstep);
+    let c = floats::value(rate);
     show::word(b"load");
     show::decimal(kind as usize);
     show::decimal(m);
@@ -198,7 +198,7 @@ fn loads_order() {
 fn query(m: usize, l: Lengths, rate: u32, q: Point3) {
     let s = sized(m);
     let t = l.tree;
-    let c = show::value(rate);
+    let c = floats::value(rate);
     show::word(b"find");
     show::decimal(m);
     lengths(l);
@@ -244,7 +244,7 @@ fn queries() {
 // A filter, a response and the six neighbours by number, and max_delay.
 fn by_number(m: usize, responses: usize, neighbours: usize, rate: u32, number: usize) {
     let s = sized(m);
-    let c = show::value(rate);
+    let c = floats::value(rate);
     show::word(b"number");
     show::decimal(number);
     show::word(b" of");

@@ -15,7 +15,7 @@ fn answer(name: &[u8], a: Answer) {
 }
 
 fn alone(bits: u32) {
-    let x = show::value(bits);
+    let x = floats::value(bits);
     show::word(b"alone");
     show::hex(x);
     show::flag(b" finite", floats::is_finite(x));
@@ -31,8 +31,8 @@ fn alone(bits: u32) {
 }
 
 fn pair(a: u32, b: u32) {
-    let y = show::value(a);
-    let x = show::value(b);
+    let y = floats::value(a);
+    let x = floats::value(b);
     show::word(b"pair");
     show::hex(y);
     show::hex(x);

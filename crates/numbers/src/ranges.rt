@@ -5,7 +5,7 @@ use limits::TreeLengths;
 use points::Point3;
 
 fn position(bits: u32) {
-    let x = show::value(bits);
+    let x = floats::value(bits);
     show::word(b"position");
     show::hex(x);
     show::flag(b" cartesian", limits::position_ok(0, 0, x));
@@ -35,7 +35,7 @@ fn positions() {
 }
 
 fn number(bits: u32) {
-    let x = show::value(bits);
+    let x = floats::value(bits);
     show::word(b"number");
     show::hex(x);
     show::flag(b" angle step", limits::angle_step_ok(x));

@@ -5,25 +5,9 @@ pub fn word(s: &[u8]) {
     io::write_all(1, s);
 }
 
-// The value of a pattern. All NaN patterns stand for the one NaN.
-pub fn value(bits: u32) -> f32 {
-    if 0x7f80_0000 < bits % 0x8000_0000 {
-        return 0.0 / 0.0;
-    }
-    f32::from_bits(bits)
-}
-
-// The pattern of a value.
-pub fn pattern(x: f32) -> u32 {
-    if x != x {
-        return 0x7fc0_0000;
-    }
-    f32::to_bits(x)
-}
-
 pub fn hex(x: f32) {
     word(b" ");
-    io::print_hex(1, pattern(x) as u64, 8);
+    io::print_hex(1, floats::pattern(x) as u64, 8);
 }
 
 pub fn hex3(x: f32, y: f32, z: f32) {

@@ -11,9 +11,9 @@ fn point(p: Point3) {
 // A point's radius, its spherical triplet, and that one taken back.
 fn there_and_back(x: u32, y: u32, z: u32) {
     let p = Point3 {
-        x: show::value(x),
-        y: show::value(y),
-        z: show::value(z),
+        x: floats::value(x),
+        y: floats::value(y),
+        z: floats::value(z),
     };
     let s = coords::cartesian_to_spherical(p);
     show::word(b"cartesian");
@@ -45,9 +45,9 @@ fn points_tried() {
 
 fn spherical(azimuth: u32, elevation: u32, radius: u32) {
     let s = Spherical {
-        azimuth: show::value(azimuth),
-        elevation: show::value(elevation),
-        radius: show::value(radius),
+        azimuth: floats::value(azimuth),
+        elevation: floats::value(elevation),
+        radius: floats::value(radius),
     };
     show::word(b"spherical");
     show::hex3(s.azimuth, s.elevation, s.radius);

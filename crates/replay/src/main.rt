@@ -67,7 +67,7 @@ fn one_more(n: u64) -> u64 {
 }
 
 fn value(w: &[u32], i: usize) -> f32 {
-    text::value(word(w, i))
+    floats::value(word(w, i))
 }
 
 // The values from a place on; a list is a part of them.
@@ -154,7 +154,7 @@ fn is_number(w: &[u32], t: Tape, n: usize) -> Tape {
 }
 
 fn is_value(w: &[u32], t: Tape, x: f32) -> Tape {
-    agrees(t, word(w, t.at) == text::bits(x))
+    agrees(t, word(w, t.at) == floats::pattern(x))
 }
 
 fn are_values(w: &[u32], t: Tape, xs: &[f32]) -> Tape {

@@ -178,7 +178,7 @@ fn rate_line(s: State, line: &[u8]) -> Step
         return malformed(s);
     };
     let mut t = s;
-    t.rate = text::value(bits);
+    t.rate = floats::value(bits);
     went(t)
 }
 
@@ -190,7 +190,7 @@ fn astep_line(s: State, line: &[u8]) -> Step
         return malformed(s);
     };
     let mut t = s;
-    t.astep = text::value(bits);
+    t.astep = floats::value(bits);
     went(t)
 }
 
@@ -202,7 +202,7 @@ fn rstep_line(s: State, line: &[u8]) -> Step
         return malformed(s);
     };
     let mut t = s;
-    t.rstep = text::value(bits);
+    t.rstep = floats::value(bits);
     went(t)
 }
 

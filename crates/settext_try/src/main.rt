@@ -79,9 +79,9 @@ fn same_state(a: State, b: State) -> bool {
         & (a.r == b.r)
         & (a.n == b.n)
         & (a.delays == b.delays)
-        & (text::bits(a.rate) == text::bits(b.rate))
-        & (text::bits(a.astep) == text::bits(b.astep))
-        & (text::bits(a.rstep) == text::bits(b.rstep))
+        & (floats::pattern(a.rate) == floats::pattern(b.rate))
+        & (floats::pattern(a.astep) == floats::pattern(b.astep))
+        & (floats::pattern(a.rstep) == floats::pattern(b.rstep))
 }
 
 fn alike(a: Seen, b: Seen) -> bool {

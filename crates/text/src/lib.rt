@@ -11,31 +11,11 @@ ghost use lib.ListN.{length};
 ghost use Rattle.lists.specs.Over.{over};
 ghost use Rattle.text.specs.Number.{digitOf, numFrom, hexOf, countOf, begins, atMost};
 ghost use Rattle.text.specs.Print.{glyphOf, hexText, decimalText};
-ghost use Rattle.text.specs.Values.{valueOf, bitsOf, goodAt, valuesOk, valueAt, stored};
+ghost use Rattle.text.specs.Values.{goodAt, valuesOk, valueAt, stored};
 
 pub enum Num {
     Is(u32),
     Bad,
-}
-
-// A pattern's value; from_bits is not defined at a NaN's pattern, so that is made by a division.
-pub fn value(bits: u32) -> f32
-    ensures { λ r. ⌜ r ≡ valueOf bits ⌝ }
-{
-    if 0x7f80_0000 < bits % 0x8000_0000 {
-        return 0.0 / 0.0;
-    }
-    f32::from_bits(bits)
-}
-
-// A value's pattern; to_bits is not defined at NaN, which has the one pattern 7fc00000.
-pub fn bits(x: f32) -> u32
-    ensures { λ r. ⌜ r ≡ bitsOf x ⌝ }
-{
-    if x != x {
-        return 0x7fc0_0000;
-    }
-    f32::to_bits(x)
 }
 
 fn digit(b: u8) -> u64
@@ -212,7 +192,7 @@ pub fn value_at(s: &[u8], k: usize) -> f32
     let Num::Is(v) = h else {
         return 0.0;
     };
-    value(v)
+    floats::value(v)
 }
 
 // The n values of a line, to out from place `at` on. A line that is malformed, or that finds no room, writes nothing.

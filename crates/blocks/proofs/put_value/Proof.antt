@@ -15,8 +15,8 @@ use borrow.Author.Needs.{needs}
 use Rattle.blocks.proofs.put_value.Statement.{statement}
 use Rattle.blocks.proofs.put_value.Tie as tie
 
-bits-requires : tie.Need-bits-requires
-bits-requires c κs = search needs
+pattern-requires : tie.Need-pattern-requires
+pattern-requires c κs = search needs
 
 sub-put-hex : tie.Need-sub-put-hex
 sub-put-hex c = search needs
@@ -42,7 +42,7 @@ returns : tie.Need-returns
 unfolding valueText
 returns c =
     let s = c .before .before .before .before .before .before in
-    let b = c .before .before .before .before .bits in
+    let b = c .before .before .before .before .pattern in
     let p = c .before .before .put-hex in
     let d = now (s .args .out) in
     let e = ap (λ (k : ℕ). hexText k) (b .ensures) in
@@ -52,7 +52,7 @@ pub put-value-spec : {M : Type 1} → statement M
 put-value-spec =
     tie.close
     (tie.spec
-    bits-requires
+    pattern-requires
     sub-put-hex
     part-put-hex-start
     part-put-hex-end

@@ -1,9 +1,9 @@
--- `text::value` meets its contract. Assumes nothing.
+-- `floats::value` meets its contract. Assumes nothing.
 use mathlib.Core.Path.{refl, sym}
 use lib.Ieee.{ofBits, div}
-use Rattle.text.proofs.Patterns.{pattern-nan, pattern-no-nan}
-use Rattle.text.proofs.value.Statement.{statement}
-use Rattle.text.proofs.value.Tie as tie
+use Rattle.floats.proofs.Patterns.{pattern-nan, pattern-no-nan}
+use Rattle.floats.proofs.value.Statement.{statement}
+use Rattle.floats.proofs.value.Tie as tie
 
 returns : tie.Need-returns
 unfolding ofBits div
