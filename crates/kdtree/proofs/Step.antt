@@ -122,6 +122,17 @@ module _ (left right : List ℕ) (xs : List Float) (count : ℕ) where
     full n b axis s h v zero le = absurd (omega arith)
     full n b axis s h v (suc k) le = simp (le-ltb _ _ v)
 
+    -- a node with neither side: both sides are passed over
+    pub leaf : (n : ℕ) (b : BoundingBox) (axis : ℕ) (s : Best) → n < count → s .visits < count → getD left n 0 ≡ 65535 → getD right n 0 ≡ 65535
+        → (d : Float) (r : Best) → d ≡ distSq (pointAt xs n) q → r ≡ improve n d (visited s) → After n b axis s (Found r)
+    unfolding search side linkOf sideOf farther afterNear
+    leaf n b axis s h v el er d r ed e zero le = absurd (omega arith)
+    leaf n b axis s h v el er d r ed e (suc k) le = sym (go (leftFirst q (pointAt xs n) axis) refl)
+      where
+        go : (g : Bool) → leftFirst q (pointAt xs n) axis ≡ g → search count q (T (suc k) n) b axis s ≡ Found r
+        go true eg = step k n b axis s true eg v ∙ simp (el, er) (cc)
+        go false eg = step k n b axis s false eg v ∙ simp (el, er) (cc)
+
     farther-node : (k m : ℕ) (go : Go) (b : BoundingBox) (axis : ℕ) (s : Best) → m < count → count - m ≤ k
         → farther q (T k m) go b axis s ≡ cond (lt (boxDistSq b q) (s .dist)) (go b axis s) (Found s)
     unfolding subtree farther

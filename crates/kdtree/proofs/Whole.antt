@@ -19,7 +19,8 @@ use Rattle.kdtree.specs.Insert.{Lists, storedAs, treeOf, slotIn, written
 use Rattle.kdtree.specs.Nearest.{readable, numberOf, startOf, placeOf, nearestOf}
 use Rattle.kdtree.proofs.Nodes.{subtree-below, found-below, slot-below, OwnerBelow}
 
-both : (x y : Bool) → (x && y) ≡ true → (x ≡ true) × (y ≡ true)
+-- both of two tests
+pub both : (x y : Bool) → (x && y) ≡ true → (x ≡ true) × (y ≡ true)
 both true y e = (refl, e)
 both false y e = let z : _≡_ {A = ℕ} 0 1 = ap (λ (b : Bool). cond b 1 0) e in absurd (omega arith)
 

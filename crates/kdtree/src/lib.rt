@@ -347,16 +347,19 @@ fn nearest_rec(
     if m <= visits_in(best) as usize {
         return STOPPED;
     }
+    let l = left[node];
+    let r = right[node];
+    let d = dist_at(xs, node, q);
+    let seen = best + 1;
+    if (l == 65535) & (r == 65535) {
+        return better(node as u16, d, seen);
+    }
     let v = place_coord(xs, node, axis);
     let go_left = left_first(query_coord(q, axis), v);
     let ax = next_axis(axis);
-    let l = left[node];
-    let r = right[node];
     let near = nearer_box(rect, axis, v, go_left);
     let far = farther_box(rect, axis, v, go_left);
     let to_far = far.dist_sq(query_point(q));
-    let d = dist_at(xs, node, q);
-    let seen = best + 1;
     let t = match link_of(m, node, either(go_left, l, r)) {
         Link::Gone => seen,
         Link::To(n) => nearest_rec(xs, left, right, m, q, near, n, ax, seen),

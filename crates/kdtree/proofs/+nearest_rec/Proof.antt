@@ -5,11 +5,13 @@ use Prim.Native.Nat.{ℕ, _<_, _-_, _+_, _%_}
 use native.Mathlib.Omega.{arith}
 use lib.Ieee.{lt}
 use denote.Ref.{now}
+use borrow.Author.Tests.{eqb-true}
+use Rattle.kdtree.proofs.Whole.{both}
 use Rattle.points.specs.Points.{pointAt}
 use Rattle.kdtree.specs.declared.Searched.{Searched}
 use Rattle.kdtree.specs.declared.Searched.the-variants.{Found}
 use Rattle.kdtree.specs.Tree.{subtree}
-use Rattle.kdtree.specs.Search.{visited}
+use Rattle.kdtree.specs.Search.{visited, improve}
 use Rattle.kdtree.specs.Search as pruned
 use Rattle.kdtree.specs.Packed.{bestIn, searchedIn}
 use Rattle.kdtree.proofs.Step as step
@@ -48,20 +50,23 @@ nearest-rec-below t =
     and 4 nearest-rec-kinds.ps (falls 4 nearest-rec-kinds.ps _<_ μ-nearest-rec t) nearest-rec′.Pre
 
 abbrev claims : ℕ → nearest-rec-lts.Claims
-claims t = (visits-in-reads.Asked, visits-in-reads.Learnt, place-coord-reads.Asked, place-coord-reads.Learnt, query-coord-reads.Asked, query-coord-reads.Learnt, left-first-reads.Asked, left-first-reads.Learnt, next-axis-reads.Asked, next-axis-reads.Learnt, nearer-box-reads.Asked, nearer-box-reads.Learnt, farther-box-reads.Asked, farther-box-reads.Learnt, query-point-reads.Asked, query-point-reads.Learnt, dist-sq-reads.Asked, dist-sq-reads.Learnt, dist-at-reads.Asked, dist-at-reads.Learnt, either-reads.Asked, either-reads.Learnt, link-of-reads.Asked, link-of-reads.Learnt, nearest-rec-below t, nearest-rec′.Post, better-reads.Asked, better-reads.Learnt, dist-in-reads.Asked, dist-in-reads.Learnt)
+claims t = (visits-in-reads.Asked, visits-in-reads.Learnt, dist-at-reads.Asked, dist-at-reads.Learnt, better-reads.Asked, better-reads.Learnt, place-coord-reads.Asked, place-coord-reads.Learnt, query-coord-reads.Asked, query-coord-reads.Learnt, left-first-reads.Asked, left-first-reads.Learnt, next-axis-reads.Asked, next-axis-reads.Learnt, nearer-box-reads.Asked, nearer-box-reads.Learnt, farther-box-reads.Asked, farther-box-reads.Learnt, query-point-reads.Asked, query-point-reads.Learnt, dist-sq-reads.Asked, dist-sq-reads.Learnt, either-reads.Asked, either-reads.Learnt, link-of-reads.Asked, link-of-reads.Learnt, nearest-rec-below t, nearest-rec′.Post, dist-in-reads.Asked, dist-in-reads.Learnt)
 
 -- the place past the nearer link's test, and what is known there
 abbrev Place : ℕ → Type 0
 Place t = nearest-rec-lts.After-link-of (claims t) (nearest-rec-at t) nearest-rec′.Post
 
 abbrev side : (t : ℕ) → Place t → nearest-rec-lts.After-nearer-box (claims t) (nearest-rec-at t) nearest-rec′.Post
-side t c = c .before .before .before .before .before .before
+side t c = c .before .before .before .before .before
 
 abbrev turn : (t : ℕ) → Place t → nearest-rec-lts.After-next-axis (claims t) (nearest-rec-at t) nearest-rec′.Post
-turn t c = side t c .before .before .before
+turn t c = side t c .before
+
+abbrev known : (t : ℕ) → Place t → nearest-rec-lts.After-dist-at (claims t) (nearest-rec-at t) nearest-rec′.Post
+known t c = turn t c .before .before .before .before .before
 
 abbrev st : (t : ℕ) → Place t → nearest-rec-lts.Start (claims t) (nearest-rec-at t) nearest-rec′.Post
-st t c = turn t c .before .before .before .before .before .before .before .before .before
+st t c = known t c .before .before .before .before .before .before .before .before
 
 -- fewer visits than places so far, and one more in the number handed on
 room : (t : ℕ) (c : nearest-rec-lts.Else1 (claims t) (nearest-rec-at t) nearest-rec′.Post)
@@ -90,7 +95,7 @@ module _ (t : ℕ) (c : Place t) where
         g = g .result;
         nx = turn t c .next-axis .result;
         below = st t c .pre .1 .0;
-        room = room t (turn t c .before .before .before .before) .0;
+        room = room t (known t c .before .before .before) .0;
         ev = v .ensures;
         eg = step.first-left (pointAt (now (a .q)) 0) (pointAt (now (a .xs)) (a .node)) (a .axis) (x .result) (v .result) (g .result) (x .ensures) (v .ensures) (g .ensures);
         en = turn t c .next-axis .ensures;
@@ -100,12 +105,12 @@ module _ (t : ℕ) (c : Place t) where
   seen : (let a = st t c .args in bestIn (a .best + 1) ≡ visited (bestIn (a .best)))
   seen =
       let a = st t c .args in
-      let r = room t (turn t c .before .before .before .before) .1 in
+      let r = room t (known t c .before .before .before) .1 in
       one.counted (a .best) (omega (arith, r))
 
   not-stopped : (let a = st t c .args in (a .best + 1) % 65536 ≡ 65535 → ⊥)
   not-stopped z =
-      let r = room t (turn t c .before .before .before .before) .1 in
+      let r = room t (known t c .before .before .before) .1 in
       absurd (omega (arith, r, z))
 
 -- where the three ways of the nearer side meet: what they answered is what the specification answers there
@@ -140,7 +145,7 @@ module _ (t : ℕ) (c : Place2 t) where
   after = met t c .match .t
 
   abbrev b : ℕ
-  b = c .before .before .better .result
+  b = c .before .before .better2 .result
 
   abbrev There : Type 0
   There =
@@ -152,19 +157,19 @@ module _ (t : ℕ) (c : Place2 t) where
   there =
       let o = met t c .before in
       record {
-        d = o .before .before .dist-at .result;
+        d = known t o .dist-at .result;
         best = bestIn b;
         l = c .before .either2 .result;
         lk = c .link-of2 .result;
-        ed = o .before .before .dist-at .ensures;
-        eb = c .before .before .better .ensures;
+        ed = known t o .dist-at .ensures;
+        eb = c .before .before .better2 .ensures;
         el = c .before .either2 .ensures;
         ek = c .link-of2 .ensures;
       }
 
   going : after % 65536 ≡ 65535 → ⊥
   unfolding bestIn
-  going z = c .before .before .before .if2 .left (c .before .before .before .before .visits-in2 .ensures ∙ z)
+  going z = c .before .before .before .if3 .left (c .before .before .before .before .visits-in2 .ensures ∙ z)
 
   found : searchedIn b ≡ Found (bestIn b)
   found =
@@ -198,18 +203,6 @@ nearest-rec-returns t c =
     let l = c .if1 .taken in
     λ f h. one.stop ∙ step.full (now (a .left)) (now (a .right)) (now (a .xs)) (a .m) (pointAt (now (a .q)) 0) (a .node) (a .rect) (a .axis) (bestIn (a .best)) (z .pre .1 .0) (omega (arith, e, l)) f h
 
-nearest-rec-place-coord-requires : (t : ℕ) → nearest-rec-lts.Need-place-coord-requires (claims t) (nearest-rec-at t) nearest-rec′.Post
-nearest-rec-place-coord-requires t c κs = search needs
-
-nearest-rec-query-coord-requires : (t : ℕ) → nearest-rec-lts.Need-query-coord-requires (claims t) (nearest-rec-at t) nearest-rec′.Post
-nearest-rec-query-coord-requires t c κs = search needs
-
-nearest-rec-left-first-requires : (t : ℕ) → nearest-rec-lts.Need-left-first-requires (claims t) (nearest-rec-at t) nearest-rec′.Post
-nearest-rec-left-first-requires t c κs = search needs
-
-nearest-rec-next-axis-requires : (t : ℕ) → nearest-rec-lts.Need-next-axis-requires (claims t) (nearest-rec-at t) nearest-rec′.Post
-nearest-rec-next-axis-requires t c κs = search needs
-
 nearest-rec-mul-l : (t : ℕ) → nearest-rec-lts.Need-mul-l (claims t) (nearest-rec-at t) nearest-rec′.Post
 nearest-rec-mul-l t c = search needs
 
@@ -222,6 +215,50 @@ nearest-rec-mul-r t c = search needs
 nearest-rec-shared-slice-read-r : (t : ℕ) → nearest-rec-lts.Need-shared-slice-read-r (claims t) (nearest-rec-at t) nearest-rec′.Post
 nearest-rec-shared-slice-read-r t c = search needs
 
+nearest-rec-dist-at-requires : (t : ℕ) → nearest-rec-lts.Need-dist-at-requires (claims t) (nearest-rec-at t) nearest-rec′.Post
+nearest-rec-dist-at-requires t c κs =
+    let h = c .before .before .before .before .before .before .before .pre in
+    omega arith
+
+nearest-rec-add-seen : (t : ℕ) → nearest-rec-lts.Need-add-seen (claims t) (nearest-rec-at t) nearest-rec′.Post
+nearest-rec-add-seen t c =
+    let r = room t (c .before .before .before) .1 in
+    let h = c .before .before .before .before .before .before .before .before .fits .best .fits in
+    omega (arith, r, h)
+
+nearest-rec-cast-better : (t : ℕ) → nearest-rec-lts.Need-cast-better (claims t) (nearest-rec-at t) nearest-rec′.Post
+nearest-rec-cast-better t c =
+    let h = c .before .before .before .before .before .before .before .before .before .pre in
+    omega arith
+
+nearest-rec-better-requires : (t : ℕ) → nearest-rec-lts.Need-better-requires (claims t) (nearest-rec-at t) nearest-rec′.Post
+nearest-rec-better-requires t c κs = search needs
+
+nearest-rec-returns-2 : (t : ℕ) → nearest-rec-lts.Need-returns-2 (claims t) (nearest-rec-at t) nearest-rec′.Post
+nearest-rec-returns-2 t c =
+    let o = c .before .before in
+    let z = o .before .before .before .before .before .before .before .before in
+    let a = z .args in
+    let r = room t (o .before .before .before) .1 in
+    let g = o .dist-at in
+    let e = both _ _ (c .before .if2 .taken) in
+    let no : (a .best + 1) % 65536 ≡ 65535 → ⊥ = λ y. absurd (omega (arith, r, y)) in
+    λ f h. one.kept (a .node) (c .better .result) (a .best + 1) (g .result) (c .better .ensures) no
+    ∙ step.leaf (now (a .left)) (now (a .right)) (now (a .xs)) (a .m) (pointAt (now (a .q)) 0) (a .node) (a .rect) (a .axis) (bestIn (a .best)) (z .pre .1 .0) (room t (o .before .before .before) .0) (eqb-true _ _ (e .0)) (eqb-true _ _ (e .1)) (g .result) (bestIn (c .better .result)) (g .ensures)
+    (c .better .ensures ∙ ap (improve (a .node) (g .result)) (one.counted (a .best) (omega (arith, r)))) f h
+
+nearest-rec-place-coord-requires : (t : ℕ) → nearest-rec-lts.Need-place-coord-requires (claims t) (nearest-rec-at t) nearest-rec′.Post
+nearest-rec-place-coord-requires t c κs = search needs
+
+nearest-rec-query-coord-requires : (t : ℕ) → nearest-rec-lts.Need-query-coord-requires (claims t) (nearest-rec-at t) nearest-rec′.Post
+nearest-rec-query-coord-requires t c κs = search needs
+
+nearest-rec-left-first-requires : (t : ℕ) → nearest-rec-lts.Need-left-first-requires (claims t) (nearest-rec-at t) nearest-rec′.Post
+nearest-rec-left-first-requires t c κs = search needs
+
+nearest-rec-next-axis-requires : (t : ℕ) → nearest-rec-lts.Need-next-axis-requires (claims t) (nearest-rec-at t) nearest-rec′.Post
+nearest-rec-next-axis-requires t c κs = search needs
+
 nearest-rec-nearer-box-requires : (t : ℕ) → nearest-rec-lts.Need-nearer-box-requires (claims t) (nearest-rec-at t) nearest-rec′.Post
 nearest-rec-nearer-box-requires t c κs = search needs
 
@@ -233,17 +270,6 @@ nearest-rec-query-point-requires t c κs = search needs
 
 nearest-rec-dist-sq-requires : (t : ℕ) → nearest-rec-lts.Need-dist-sq-requires (claims t) (nearest-rec-at t) nearest-rec′.Post
 nearest-rec-dist-sq-requires t c κs = search needs
-
-nearest-rec-dist-at-requires : (t : ℕ) → nearest-rec-lts.Need-dist-at-requires (claims t) (nearest-rec-at t) nearest-rec′.Post
-nearest-rec-dist-at-requires t c κs =
-    let h = c .before .before .before .before .before .before .before .before .before .before .before .before .before .before .before .pre in
-    omega arith
-
-nearest-rec-add-seen : (t : ℕ) → nearest-rec-lts.Need-add-seen (claims t) (nearest-rec-at t) nearest-rec′.Post
-nearest-rec-add-seen t c =
-    let r = room t (c .before .before .before .before .before .before .before .before .before .before .before) .1 in
-    let h = c .before .before .before .before .before .before .before .before .before .before .before .before .before .before .before .before .fits .best .fits in
-    omega (arith, r, h)
 
 nearest-rec-either-requires : (t : ℕ) → nearest-rec-lts.Need-either-requires (claims t) (nearest-rec-at t) nearest-rec′.Post
 nearest-rec-either-requires t c κs = search needs
@@ -272,24 +298,24 @@ nearest-rec-enum-told-2 t c = search needs
 nearest-rec-visits-in-requires-2 : (t : ℕ) → nearest-rec-lts.Need-visits-in-requires-2 (claims t) (nearest-rec-at t) nearest-rec′.Post
 nearest-rec-visits-in-requires-2 t c κs = search needs
 
-stopped-at : (t : ℕ) (c : nearest-rec-lts.Then2 (claims t) (nearest-rec-at t) nearest-rec′.Post) → c .before .before .match .t % 65536 ≡ 65535
+stopped-at : (t : ℕ) (c : nearest-rec-lts.Then3 (claims t) (nearest-rec-at t) nearest-rec′.Post) → c .before .before .match .t % 65536 ≡ 65535
 unfolding bestIn
-stopped-at t c = sym (c .before .visits-in2 .ensures) ∙ c .if2 .taken
+stopped-at t c = sym (c .before .visits-in2 .ensures) ∙ c .if3 .taken
 
-nearest-rec-returns-2 : (t : ℕ) → nearest-rec-lts.Need-returns-2 (claims t) (nearest-rec-at t) nearest-rec′.Post
-nearest-rec-returns-2 t c =
+nearest-rec-returns-3 : (t : ℕ) → nearest-rec-lts.Need-returns-3 (claims t) (nearest-rec-at t) nearest-rec′.Post
+nearest-rec-returns-3 t c =
     let m = c .before .before in
     let a = st t (m .before) .args in
     let e : m .match .t % 65536 ≡ 65535 = stopped-at t c in
     λ f h. one.stop ∙ step.stopped (now (a .left)) (now (a .right)) (now (a .xs)) (a .m) (pointAt (now (a .q)) 0) (a .node) (a .rect) (a .axis) (bestIn (a .best)) (here t (m .before)) (searchedIn (m .match .t)) (came t m) (one.halted (m .match .t) e) f h
 
-nearest-rec-cast-better : (t : ℕ) → nearest-rec-lts.Need-cast-better (claims t) (nearest-rec-at t) nearest-rec′.Post
-nearest-rec-cast-better t c =
+nearest-rec-cast-better-2 : (t : ℕ) → nearest-rec-lts.Need-cast-better-2 (claims t) (nearest-rec-at t) nearest-rec′.Post
+nearest-rec-cast-better-2 t c =
     let h = st t (c .before .before .before) .pre in
     omega arith
 
-nearest-rec-better-requires : (t : ℕ) → nearest-rec-lts.Need-better-requires (claims t) (nearest-rec-at t) nearest-rec′.Post
-nearest-rec-better-requires t c κs = search needs
+nearest-rec-better-requires-2 : (t : ℕ) → nearest-rec-lts.Need-better-requires-2 (claims t) (nearest-rec-at t) nearest-rec′.Post
+nearest-rec-better-requires-2 t c κs = search needs
 
 nearest-rec-either-requires-2 : (t : ℕ) → nearest-rec-lts.Need-either-requires-2 (claims t) (nearest-rec-at t) nearest-rec′.Post
 nearest-rec-either-requires-2 t c κs = search needs
@@ -300,8 +326,8 @@ nearest-rec-link-of-requires-2 t c κs = search needs
 nearest-rec-enum-told-3 : (t : ℕ) → nearest-rec-lts.Need-enum-told-3 (claims t) (nearest-rec-at t) nearest-rec′.Post
 nearest-rec-enum-told-3 t c = search needs
 
-nearest-rec-returns-3 : (t : ℕ) → nearest-rec-lts.Need-returns-3 (claims t) (nearest-rec-at t) nearest-rec′.Post
-nearest-rec-returns-3 t c =
+nearest-rec-returns-4 : (t : ℕ) → nearest-rec-lts.Need-returns-4 (claims t) (nearest-rec-at t) nearest-rec′.Post
+nearest-rec-returns-4 t c =
     let k = c .before .before in
     let o = met t k .before in
     let a = st t o .args in
@@ -310,8 +336,8 @@ nearest-rec-returns-3 t c =
 nearest-rec-enum-told-4 : (t : ℕ) → nearest-rec-lts.Need-enum-told-4 (claims t) (nearest-rec-at t) nearest-rec′.Post
 nearest-rec-enum-told-4 t c = search needs
 
-nearest-rec-returns-4 : (t : ℕ) → nearest-rec-lts.Need-returns-4 (claims t) (nearest-rec-at t) nearest-rec′.Post
-nearest-rec-returns-4 t c =
+nearest-rec-returns-5 : (t : ℕ) → nearest-rec-lts.Need-returns-5 (claims t) (nearest-rec-at t) nearest-rec′.Post
+nearest-rec-returns-5 t c =
     let k = c .before .before in
     let o = met t k .before in
     let a = st t o .args in
@@ -333,31 +359,31 @@ nearest-rec-nearest-rec-requires-2 t c κs =
     let h = st t o .pre in
     (omega arith, (i .below, h .1 .1, h .1 .2, h .1 .3, h .1 .4, step.next-below (a .axis) (here t o .nx) (here t o .en)))
 
-nearest-rec-returns-5 : (t : ℕ) → nearest-rec-lts.Need-returns-5 (claims t) (nearest-rec-at t) nearest-rec′.Post
-nearest-rec-returns-5 t c =
+nearest-rec-returns-6 : (t : ℕ) → nearest-rec-lts.Need-returns-6 (claims t) (nearest-rec-at t) nearest-rec′.Post
+nearest-rec-returns-6 t c =
     let k = c .before .before .before .before .before .before in
     let o = met t k .before in
     let a = st t o .args in
     let s = side t o in
     let n = c .before .before .before .before .n2 in
-    let f = o .before .before .before .before .before .farther-box in
-    let u = o .before .before .before .before .query-point in
-    let x = o .before .before .before .dist-sq in
+    let f = o .before .before .before .before .farther-box in
+    let u = o .before .before .before .query-point in
+    let x = o .before .before .dist-sq in
     let l = ap (lt (x .result)) (c .before .before .dist-in .ensures) in
-    ends t k _ (step.far-in (now (a .left)) (now (a .right)) (now (a .xs)) (a .m) (pointAt (now (a .q)) 0) (a .node) (a .rect) (a .axis) (bestIn (a .best)) (here t o) (bestIn (after t k)) (there t k) (n .given .0 .0) (f .result) (u .result) (x .result) (searchedIn (c .nearest-rec2 .result)) (n .given .1) (f .ensures) (u .ensures) (x .ensures) (sym l ∙ c .before .if3 .taken) (c .nearest-rec2 .ensures))
+    ends t k _ (step.far-in (now (a .left)) (now (a .right)) (now (a .xs)) (a .m) (pointAt (now (a .q)) 0) (a .node) (a .rect) (a .axis) (bestIn (a .best)) (here t o) (bestIn (after t k)) (there t k) (n .given .0 .0) (f .result) (u .result) (x .result) (searchedIn (c .nearest-rec2 .result)) (n .given .1) (f .ensures) (u .ensures) (x .ensures) (sym l ∙ c .before .if4 .taken) (c .nearest-rec2 .ensures))
 
-nearest-rec-returns-6 : (t : ℕ) → nearest-rec-lts.Need-returns-6 (claims t) (nearest-rec-at t) nearest-rec′.Post
-nearest-rec-returns-6 t c =
+nearest-rec-returns-7 : (t : ℕ) → nearest-rec-lts.Need-returns-7 (claims t) (nearest-rec-at t) nearest-rec′.Post
+nearest-rec-returns-7 t c =
     let k = c .before .before .before .before .before in
     let o = met t k .before in
     let a = st t o .args in
     let s = side t o in
     let n = c .before .before .before .n2 in
-    let f = o .before .before .before .before .before .farther-box in
-    let u = o .before .before .before .before .query-point in
-    let x = o .before .before .before .dist-sq in
+    let f = o .before .before .before .before .farther-box in
+    let u = o .before .before .before .query-point in
+    let x = o .before .before .dist-sq in
     let l = ap (lt (x .result)) (c .before .dist-in .ensures) in
-    ends t k _ (λ g hg. found t k ∙ step.far-out (now (a .left)) (now (a .right)) (now (a .xs)) (a .m) (pointAt (now (a .q)) 0) (a .node) (a .rect) (a .axis) (bestIn (a .best)) (here t o) (bestIn (after t k)) (there t k) (n .given .0 .0) (f .result) (u .result) (x .result) (n .given .1) (f .ensures) (u .ensures) (x .ensures) (sym l ∙ c .if3 .left) g hg)
+    ends t k _ (λ g hg. found t k ∙ step.far-out (now (a .left)) (now (a .right)) (now (a .xs)) (a .m) (pointAt (now (a .q)) 0) (a .node) (a .rect) (a .axis) (bestIn (a .best)) (here t o) (bestIn (after t k)) (there t k) (n .given .0 .0) (f .result) (u .result) (x .result) (n .given .1) (f .ensures) (u .ensures) (x .ensures) (sym l ∙ c .if4 .left) g hg)
 
 pub +nearest-rec-spec : {M : Type 1} → statement M
 +nearest-rec-spec = close μ-nearest-rec λ t. nearest-rec-lts.spec (claims t)
@@ -366,20 +392,23 @@ pub +nearest-rec-spec : {M : Type 1} → statement M
     (nearest-rec-visits-in-requires t)
     (nearest-rec-cast-if1 t)
     (nearest-rec-returns t)
-    (nearest-rec-place-coord-requires t)
-    (nearest-rec-query-coord-requires t)
-    (nearest-rec-left-first-requires t)
-    (nearest-rec-next-axis-requires t)
     (nearest-rec-mul-l t)
     (nearest-rec-shared-slice-read-l t)
     (nearest-rec-mul-r t)
     (nearest-rec-shared-slice-read-r t)
+    (nearest-rec-dist-at-requires t)
+    (nearest-rec-add-seen t)
+    (nearest-rec-cast-better t)
+    (nearest-rec-better-requires t)
+    (nearest-rec-returns-2 t)
+    (nearest-rec-place-coord-requires t)
+    (nearest-rec-query-coord-requires t)
+    (nearest-rec-left-first-requires t)
+    (nearest-rec-next-axis-requires t)
     (nearest-rec-nearer-box-requires t)
     (nearest-rec-farther-box-requires t)
     (nearest-rec-query-point-requires t)
     (nearest-rec-dist-sq-requires t)
-    (nearest-rec-dist-at-requires t)
-    (nearest-rec-add-seen t)
     (nearest-rec-either-requires t)
     (nearest-rec-link-of-requires t)
     (nearest-rec-enum-told t)
@@ -387,17 +416,17 @@ pub +nearest-rec-spec : {M : Type 1} → statement M
     (nearest-rec-nearest-rec-requires t)
     (nearest-rec-enum-told-2 t)
     (nearest-rec-visits-in-requires-2 t)
-    (nearest-rec-returns-2 t)
-    (nearest-rec-cast-better t)
-    (nearest-rec-better-requires t)
+    (nearest-rec-returns-3 t)
+    (nearest-rec-cast-better-2 t)
+    (nearest-rec-better-requires-2 t)
     (nearest-rec-either-requires-2 t)
     (nearest-rec-link-of-requires-2 t)
     (nearest-rec-enum-told-3 t)
-    (nearest-rec-returns-3 t)
-    (nearest-rec-enum-told-4 t)
     (nearest-rec-returns-4 t)
+    (nearest-rec-enum-told-4 t)
+    (nearest-rec-returns-5 t)
     (nearest-rec-enum-known-n-2 t)
     (nearest-rec-dist-in-requires t)
     (nearest-rec-nearest-rec-requires-2 t)
-    (nearest-rec-returns-5 t)
     (nearest-rec-returns-6 t)
+    (nearest-rec-returns-7 t)
