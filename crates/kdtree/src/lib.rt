@@ -23,7 +23,7 @@ ghost use Rattle.kdtree.specs.Nearest.{placeOf, lengthsFor, nearestOf};
 
 // ---- coordinates and distances
 
-fn coord(p: Point3, axis: u8) -> f32
+pub fn coord(p: Point3, axis: u8) -> f32
     ensures { λ r. ⌜ r ≡ coordOf p axis ⌝ }
 {
     match axis {
@@ -33,7 +33,7 @@ fn coord(p: Point3, axis: u8) -> f32
     }
 }
 
-fn next_axis(axis: u8) -> u8
+pub fn next_axis(axis: u8) -> u8
     ensures { λ r. ⌜ r ≡ nextAxis axis ⌝ }
 {
     match axis {
@@ -119,7 +119,7 @@ impl BoundingBox {
     }
 
     // One lower corner coordinate replaced.
-    fn with_min(mut self, axis: u8, v: f32) -> Self
+    pub fn with_min(mut self, axis: u8, v: f32) -> Self
         ensures { λ r. ⌜ r ≡ withMin self axis v ⌝ }
     {
         match axis {
@@ -139,7 +139,7 @@ impl BoundingBox {
     }
 
     // One upper corner coordinate replaced.
-    fn with_max(mut self, axis: u8, v: f32) -> Self
+    pub fn with_max(mut self, axis: u8, v: f32) -> Self
         ensures { λ r. ⌜ r ≡ withMax self axis v ⌝ }
     {
         match axis {
@@ -189,7 +189,7 @@ pub enum Link {
 }
 
 // Good is a link above its owner and below the count.
-fn link_of(count: usize, owner: usize, l: u16) -> Link
+pub fn link_of(count: usize, owner: usize, l: u16) -> Link
     ensures { λ r. ⌜ r ≡ linkOf count owner l ⌝ }
 {
     if l == 65535 {
@@ -307,7 +307,7 @@ fn left_first(q: f32, v: f32) -> bool
     q - v <= 0.0
 }
 
-fn either(first: bool, a: u16, b: u16) -> u16
+pub fn either(first: bool, a: u16, b: u16) -> u16
     ensures { λ r. ⌜ r ≡ cond first a b ⌝ }
 {
     if first { a } else { b }
