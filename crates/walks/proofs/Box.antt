@@ -105,7 +105,7 @@ zero-fair : (z : Float) → Fair z → T (fits binary32 z) → add binary32 zero
 zero-fair z (inl e) F = ap (λ (w : Float). add binary32 zero w) e ∙ add-nan-r zero ∙ sym e
 zero-fair z (inr p) F = zero-plus binary32 z p F
 
-from-zero : (x p : Float) → add binary32 zero (gap x p) ≡ gap x p
+pub from-zero : (x p : Float) → add binary32 zero (gap x p) ≡ gap x p
 from-zero x p = zero-fair (gap x p) (sq-fair (sub binary32 x p)) (mul-fits binary32 (sub binary32 x p) (sub binary32 x p))
 
 pub box-under : (b : BoundingBox) (x p : Point3) → Inside b x → T (not (lt (distSq x p) (boxDistSq b p)))
