@@ -76,7 +76,7 @@ module _ (xs : List Float) (m : ℕ) (d : Links) (room : Room xs m d) where
   abbrev links : ℕ → Links
   links n = overBoth (linked xs n) d
 
-  abbrev lists : ℕ → Lists
+  abbrev pub lists : ℕ → Lists
   lists n = listsOf xs (links n .left) (links n .right) (numbers n)
 
   unfoldable pub rect : ℕ → BoundingBox

@@ -43,7 +43,7 @@ unfolding placedFrom
 each-placed P xs zero i f = tt
 each-placed P xs (suc n) i f = (f i (omega arith), each-placed P xs n (suc i) (λ j h. f j (omega arith)))
 
-in-placed : (xs : List Float) (n i j : ℕ) → i ≤ j → j < i + n → In (placed xs j) (placedFrom xs n i)
+pub in-placed : (xs : List Float) (n i j : ℕ) → i ≤ j → j < i + n → In (placed xs j) (placedFrom xs n i)
 unfolding placedFrom
 in-placed xs zero i j h k = absurd (omega arith)
 in-placed xs (suc n) i j h k = go (ltb i j) (ltb→lt i j) (lt→ltb i j) (λ l. in-placed xs n (suc i) j l (omega arith))

@@ -117,7 +117,7 @@ all-any P bad f = tt
 all-any P (node n p l r) f = (f n p, (all-any P l f, all-any P r f))
 
 -- what holds of the items' points holds of the measurements that stand at their places
-each-standing : (a : Lists) (P : Point3 → Type 0) (l : List Item) → Each (λ (i : Item). i .point ≡ pointAt (a .positions) (i .place)) l → Each (λ (i : Item). P (i .point)) l
+pub each-standing : (a : Lists) (P : Point3 → Type 0) (l : List Item) → Each (λ (i : Item). i .point ≡ pointAt (a .positions) (i .place)) l → Each (λ (i : Item). P (i .point)) l
     → Each (λ (x : Numbered). P (x .point)) (map (λ (i : Item). standing a (i .place)) l)
 each-standing a P [] e h = tt
 each-standing a P (i ∷ l) e h = (subst P (e .0) (h .0), each-standing a P l (e .1) (h .1))
