@@ -16,7 +16,7 @@ use Rattle.clearing.proofs.+clear_rec.{statement}
 use Rattle.clearing.proofs.+clear_rec.Tie.{close}
 
 abbrev μ-clear-rec : Measures 3 clear-rec-kinds.ps ℕ
-μ-clear-rec κs a = ?
+μ-clear-rec κs a = a .1 .1 .1 .0 - a .1 .1 .1 .1 .1 .1 .0
 
 abbrev clear-rec-at : ℕ → In 3 clear-rec-kinds.ps
 clear-rec-at t = and 3 clear-rec-kinds.ps (is 3 clear-rec-kinds.ps μ-clear-rec t) clear-rec.Pre

@@ -1,33 +1,40 @@
 use borrow.Author.Needs.{needs}
+use Rattle.clearing.proofs.Choices as choices
 use Rattle.clearing.proofs.far_axis.Statement.{statement}
 use Rattle.clearing.proofs.far_axis.Tie as tie
-use Rattle.clearing.proofs.far_axis.Reads as reads
-use Rattle.clearing.proofs.far_axis.Lts as lts
-use Rattle.floats.proofs.abs.Reads as abs-reads
 
--- src/lib.rt:69:9
 abs-requires : tie.Need-abs-requires
 abs-requires c κs = search needs
 
--- src/lib.rt:70:9
 abs-requires-2 : tie.Need-abs-requires-2
 abs-requires-2 c κs = search needs
 
--- src/lib.rt:71:9
 abs-requires-3 : tie.Need-abs-requires-3
 abs-requires-3 c κs = search needs
 
--- src/lib.rt:66:1
 returns : tie.Need-returns
-returns c = search needs
+returns c =
+    let o = c .before in
+    let m = o .before .before .before in
+    let k = m .before .before .before in
+    let a = k .before .before .before .args in
+    choices.far-axis-at (a .p) (a .x) _ _ _ (k .abs .ensures) (m .abs2 .ensures) (o .abs3 .ensures) _ (simp (c .if1 .taken))
 
--- src/lib.rt:66:1
 returns-2 : tie.Need-returns-2
-returns-2 c = search needs
+returns-2 c =
+    let o = c .before .before in
+    let m = o .before .before .before in
+    let k = m .before .before .before in
+    let a = k .before .before .before .args in
+    choices.far-axis-at (a .p) (a .x) _ _ _ (k .abs .ensures) (m .abs2 .ensures) (o .abs3 .ensures) _ (simp (c .before .if1 .left, c .if2 .taken))
 
--- src/lib.rt:66:1
 returns-3 : tie.Need-returns-3
-returns-3 c = search needs
+returns-3 c =
+    let o = c .before .before in
+    let m = o .before .before .before in
+    let k = m .before .before .before in
+    let a = k .before .before .before .args in
+    choices.far-axis-at (a .p) (a .x) _ _ _ (k .abs .ensures) (m .abs2 .ensures) (o .abs3 .ensures) _ (simp (c .before .if1 .left, c .if2 .left))
 
 pub far-axis-spec : {M : Type 1} → statement M
 far-axis-spec =
