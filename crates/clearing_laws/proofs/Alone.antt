@@ -37,7 +37,7 @@ use Rattle.lookup.specs.Lookup.{locatedAs}
 use Rattle.lookup_laws.specs.Loaded.{placed, placedFrom, Room}
 use Rattle.lookup_laws.proofs.Loaded as built
 use Rattle.lookup_laws.proofs.Nearest.{in-placed}
-use Rattle.clearing_laws.specs.Clearing.{everywhere, cleared, aloneIn}
+use Rattle.clearing.specs.Clearing.{everywhere, cleared, aloneIn}
 use Rattle.clearing_laws.proofs.Cleared.{Standing, cleared-out}
 use Rattle.clearing_laws.proofs.Faces.{Tested, tested, out-farther}
 

@@ -13,7 +13,7 @@ use Rattle.kdtree.specs.Geometry.{byAxis, coordOf, nextAxis, withMin, withMax}
 use Rattle.kdtree.specs.Tree.{Tree, gone, bad, node}
 use Rattle.kdtree.proofs.Nodes.{All}
 use Rattle.walks.proofs.Sides.{Sorted, all-map}
-use Rattle.clearing_laws.specs.Clearing.{minAt, maxAt, between, holds, farAxis, drawnIn, met, reaches, cleared}
+use Rattle.clearing.specs.Clearing.{minAt, maxAt, between, holds, farAxis, drawnIn, met, reaches, cleared}
 
 -- ---- outside of an open box: not past one of its faces, to the inside, on some axis
 

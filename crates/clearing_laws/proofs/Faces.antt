@@ -14,7 +14,7 @@ use Rattle.points.specs.Points.{gap, distSq}
 use Rattle.kdtree.specs.declared.BoundingBox.{BoundingBox}
 use Rattle.kdtree.specs.Geometry.{byAxis, coordOf, outside, boxDistSq, withMin, withMax}
 use Rattle.walks.proofs.Box.{Between, Inside, box-under, from-zero}
-use Rattle.clearing_laws.specs.Clearing.{everywhere, minAt, maxAt, between, nearerThanFaces, aloneIn}
+use Rattle.clearing.specs.Clearing.{everywhere, minAt, maxAt, between, nearerThanFaces, aloneIn}
 use Rattle.clearing_laws.proofs.Cleared.{Out}
 
 -- ---- nothing is beyond infinity

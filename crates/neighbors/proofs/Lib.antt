@@ -1,3 +1,4 @@
 pub mod Fixed
 pub mod Going
 pub mod Table
+pub mod Around

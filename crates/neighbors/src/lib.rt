@@ -9,9 +9,11 @@
 // entry is 65535 or the number of another measurement.
 use coords::Spherical;
 use coords::Turn;
+use kdtree::BoundingBox;
 use limits::Verdict;
 use lookup::Located;
 use lookup::Lookup;
+use points::Point3;
 ghost use mathlib.Core.Path.{_≡_};
 ghost use mathlib.Core.Bool.{cond, _&&_};
 ghost use Prim.Native.Nat.{_+_, _*_, _<_, _≤_};
@@ -20,7 +22,9 @@ ghost use lib.ListN.{length};
 ghost use lib.Ieee.{eq};
 ghost use Rattle.floats.specs.Floats.{zero32};
 ghost use Rattle.coords.specs.Coords.{turnOf};
+ghost use Rattle.lookup.specs.Lookup.{locateOf};
 ghost use Rattle.neighbors.specs.Neighbors.{after, moved, leaves, steps, stepOf, capOf, directionOf, tabledAs, rowOf, tableOf};
+ghost use Rattle.neighbors.specs.Built.{Surrounds, BuiltBy};
 
 fn after_steps(v: f32, step: f32, s: u32) -> f32
     ensures { λ r. ⌜ r ≡ after v step s ⌝ }
@@ -59,6 +63,32 @@ fn turned(before: Turn, step: f32, i: u32, degrees: f32) -> Turn
     }
 }
 
+// The measurement nearest to q. Most steps lead to no other than its own: where q lies so deep in its clearing that no other can be
+// nearer, no search is wanted.
+fn locate_around(
+    look: Lookup,
+    m: usize,
+    cartesian: &[f32],
+    left: &[u16],
+    right: &[u16],
+    own: u16,
+    around: BoundingBox,
+    q: Point3,
+) -> Located
+    requires { ⌜ (own < m) × (3 * m ≤ length (now cartesian)) × (m ≤ length (now left)) × (m ≤ length (now right)) × (m ≤ 16384)
+        × Surrounds look m (now cartesian) (now left) (now right) own around ⌝ }
+    ensures { λ r. ⌜ r ≡ locateOf look m (now (cartesian .entry)) (now (left .entry)) (now (right .entry)) q ⌝ }
+{
+    let p = look.normalize_radius(q);
+    let place = own as usize;
+    let here = points::point_at(cartesian, place);
+    let root = points::point_at(cartesian, 0);
+    if clearing::alone(around, place, here, root, p) {
+        return Located::At(own);
+    }
+    look.nearest(m, cartesian, left, right, p)
+}
+
 // The first found number other than its own, 65535 if there is none.
 fn search_direction(
     look: Lookup,
@@ -67,11 +97,13 @@ fn search_direction(
     left: &[u16],
     right: &[u16],
     own: u16,
+    around: BoundingBox,
     from: Spherical,
     step: Spherical,
     cap: u32,
 ) -> Located
-    requires { ⌜ (0 < m) × (3 * m ≤ length (now cartesian)) × (m ≤ length (now left)) × (m ≤ length (now right)) × (m ≤ 16384) ⌝ }
+    requires { ⌜ (own < m) × (3 * m ≤ length (now cartesian)) × (m ≤ length (now left)) × (m ≤ length (now right)) × (m ≤ 16384)
+        × Surrounds look m (now cartesian) (now left) (now right) own around ⌝ }
     ensures { λ r. ⌜ r ≡ directionOf look m (now (cartesian .entry)) (now (left .entry)) (now (right .entry)) own from step cap ⌝ }
 {
     let mut phi = Turn { sin: 0.0, cos: 1.0 };
@@ -85,7 +117,7 @@ fn search_direction(
         phi = turned(phi, step.azimuth, i, there.azimuth);
         theta = turned(theta, step.elevation, i, there.elevation);
         let q = coords::along(phi, theta, there.radius);
-        let found = look.locate(m, cartesian, left, right, q);
+        let found = locate_around(look, m, cartesian, left, right, own, around, q);
         let Located::At(n) = found else {
             return found;
         };
@@ -144,16 +176,20 @@ fn find_neighbors(
     own: usize,
     neighbors: &mut [u16],
 ) -> Verdict
-    requires { ⌜ (own < m) × (3 * m ≤ length (now cartesian)) × (m ≤ length (now left)) × (m ≤ length (now right)) × (m ≤ 16384) × (6 * m ≤ length (now neighbors)) ⌝ }
+    requires { ⌜ (own < m) × (3 * m ≤ length (now cartesian)) × (m ≤ length (now left)) × (m ≤ length (now right)) × (m ≤ 16384) × (6 * m ≤ length (now neighbors))
+        × BuiltBy look m (now cartesian) (now left) (now right) ⌝ }
     ensures { λ r. ⌜ tabledAs r (now (neighbors .exit)) ≡ rowOf look m (now (cartesian .entry)) (now (left .entry)) (now (right .entry)) «angle_step» «radius_step» own (now (neighbors .entry)) ⌝ }
 {
     let from = coords::cartesian_to_spherical(points::point_at(cartesian, own));
     let number = own as u16;
+    let around = clearing::clear(m, cartesian, left, right, own);
     let mut d = 0;
     while d < 6 {
         let step = step_along(d, angle_step, radius_step);
         let cap = max_steps(d, angle_step);
-        let found = search_direction(look, m, cartesian, left, right, number, from, step, cap);
+        let found = search_direction(
+            look, m, cartesian, left, right, number, around, from, step, cap,
+        );
         let Located::At(n) = found else {
             return lookup::verdict(found);
         };
@@ -163,7 +199,7 @@ fn find_neighbors(
     Verdict::Fine
 }
 
-// The table of all measurements; a refusal ends it, which a loaded set never meets.
+// The table of all measurements, over links that were built; a refusal ends it, which such links never meet.
 pub fn fill_neighbors(
     look: Lookup,
     m: usize,
@@ -174,7 +210,8 @@ pub fn fill_neighbors(
     radius_step: f32,
     neighbors: &mut [u16],
 ) -> Verdict
-    requires { ⌜ (3 * m ≤ length (now cartesian)) × (m ≤ length (now left)) × (m ≤ length (now right)) × (m ≤ 16384) × (6 * m ≤ length (now neighbors)) ⌝ }
+    requires { ⌜ (3 * m ≤ length (now cartesian)) × (m ≤ length (now left)) × (m ≤ length (now right)) × (m ≤ 16384) × (6 * m ≤ length (now neighbors))
+        × BuiltBy look m (now cartesian) (now left) (now right) ⌝ }
     ensures { λ r. ⌜ tabledAs r (now (neighbors .exit)) ≡ tableOf look m (now (cartesian .entry)) (now (left .entry)) (now (right .entry)) «angle_step» «radius_step» (now (neighbors .entry)) ⌝ }
 {
     let mut i = 0;
