@@ -148,7 +148,14 @@ impl Lookup {
     }
 
     // The measurement nearest to a point that is clamped already.
-    pub fn nearest(self, m: usize, cartesian: &[f32], left: &[u16], right: &[u16], p: Point3) -> Located
+    pub fn nearest(
+        self,
+        m: usize,
+        cartesian: &[f32],
+        left: &[u16],
+        right: &[u16],
+        p: Point3,
+    ) -> Located
         requires { ⌜ (0 < m) × (3 * m ≤ length (now cartesian)) × (m ≤ length (now left)) × (m ≤ length (now right)) × (m ≤ 16384) ⌝ }
         ensures { λ r. ⌜ r ≡ locatedAs (placeOf (now (cartesian .entry)) (now (left .entry)) (now (right .entry)) m (self .bounds) p) ⌝ }
     {

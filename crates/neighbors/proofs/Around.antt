@@ -23,8 +23,8 @@ Clears m xs left right own b = b ≡ cleared own (pointAt xs own) (subtree left 
 
 over-built : (look : Lookup) (m : ℕ) (xs : List Float) (d : Links) → Room xs m d → look .bounds ≡ boxOf xs m → (own : ℕ) → own < m → (b : BoundingBox)
     → (let l = over (linked xs m .left) (d .left) in let r = over (linked xs m .right) (d .right) in Clears m xs l r own b → Surrounds look m xs l r own b)
-over-built look zero xs d room eb own h b = absurd (omega arith)
-over-built look (suc k) xs d room eb own h b e p a = 
+over-built look zero xs d room eb own h b e p a = absurd (omega arith)
+over-built look (suc k) xs d room eb own h b e p a =
     let l = over (linked xs (suc k) .left) (d .left) in
     let r = over (linked xs (suc k) .right) (d .right) in
     ap (λ (c : BoundingBox). locatedAs (placeOf xs l r (suc k) c p)) eb

@@ -188,7 +188,16 @@ fn find_neighbors(
         let step = step_along(d, angle_step, radius_step);
         let cap = max_steps(d, angle_step);
         let found = search_direction(
-            look, m, cartesian, left, right, number, around, from, step, cap,
+            look,
+            m,
+            cartesian,
+            left,
+            right,
+            number,
+            around,
+            from,
+            step,
+            cap,
         );
         let Located::At(n) = found else {
             return lookup::verdict(found);

@@ -24,7 +24,7 @@ loop-holds c =
     (omega arith, refl, ap (λ (j : ℕ). writing (entryOf (a .look) (a .m) (now (a .cartesian)) (now (a .left)) (now (a .right)) (a .angle-step) (a .radius-step)) j 0 (now (a .neighbors))) e)
 
 find-neighbors-requires : tie.Need-find-neighbors-requires Inv-loop μ-loop
-find-neighbors-requires c κs = let h = c .before .before .before .before .before .before .before .pre in let l = c .before .before .loop .inv .1 in let g = h .4 in (omega arith, h .0, h .1, h .2, h .3, omega (arith, l, g))
+find-neighbors-requires c κs = let h = c .before .before .before .before .before .before .before .pre in let l = c .before .before .loop .inv .1 in let g = h .4 in (omega arith, h .0, h .1, h .2, h .3, omega (arith, l, g), h .5)
 
 enum-told : tie.Need-enum-told Inv-loop μ-loop
 enum-told c = search needs

@@ -10,12 +10,12 @@ use Rattle.neighbors.proofs.search_direction.Statement.{statement}
 use Rattle.neighbors.proofs.search_direction.Tie as tie
 
 abbrev Inv-loop : tie.InvT-loop
-Inv-loop look m cartesian left right own from step cap phi₀ theta₀ i₀ phi theta i =
+Inv-loop look m cartesian left right own around from step cap phi₀ theta₀ i₀ phi theta i =
     (i ≤ cap) × (cap ≤ 4294967295) × (going look m cartesian left right own from step (cap - i) i ≡ directionOf look m cartesian left right own from step cap)
     × Kept (λ x. x) (from .azimuth) (step .azimuth) i phi × Kept tilted (from .elevation) (step .elevation) i theta
 
 abbrev μ-loop : tie.MeasureT-loop
-μ-loop look m cartesian left right own from step cap phi₀ theta₀ i₀ phi theta i = cap - i
+μ-loop look m cartesian left right own around from step cap phi₀ theta₀ i₀ phi theta i = cap - i
 
 loop-holds : tie.Need-loop-holds Inv-loop μ-loop
 loop-holds c =
@@ -52,8 +52,8 @@ turned-requires-2 c κs = search needs
 along-requires : tie.Need-along-requires Inv-loop μ-loop
 along-requires c κs = search needs
 
-locate-requires : tie.Need-locate-requires Inv-loop μ-loop
-locate-requires c κs = c .before .before .before .before .before .before .before .before .before .before .before .pre
+locate-around-requires : tie.Need-locate-around-requires Inv-loop μ-loop
+locate-around-requires c κs = c .before .before .before .before .before .before .before .before .before .before .before .pre
 
 enum-known-found : tie.Need-enum-known-found Inv-loop μ-loop
 enum-known-found c = search needs
@@ -73,7 +73,7 @@ returns-2 c =
     let ek : k ≡ suc j = omega (arith, t) in
     let h : i + 1 ≤ 4294967296 = let g = l .inv .1 in omega (arith, t, g) in
     let q = search.point-is (a .from) (a .step) i h (z .result) (z .ensures) (l .phi) (l .theta) (l .inv .3) (l .inv .4) (c .before .before .before .before .before .turned .result) (c .before .before .before .before .turned2 .result) (c .before .before .before .before .before .turned .ensures) (c .before .before .before .before .turned2 .ensures) (c .before .before .before .along .result) (c .before .before .before .along .ensures) in
-    search.refused (a .look) (a .m) (now (a .cartesian)) (now (a .left)) (now (a .right)) (a .own) (a .from) (a .step) k j i ek (z .result) (z .ensures) (sym (c .before .before .before .before .before .before .before .has-left .ensures) ∙ c .before .before .before .before .before .before .if1 .left) (c .before .before .before .along .result) q (c .before .before .locate .result) (c .before .before .locate .ensures) _ _ (c .enum-told .given .1) ∙ l .inv .2
+    search.refused (a .look) (a .m) (now (a .cartesian)) (now (a .left)) (now (a .right)) (a .own) (a .from) (a .step) k j i ek (z .result) (z .ensures) (sym (c .before .before .before .before .before .before .before .has-left .ensures) ∙ c .before .before .before .before .before .before .if1 .left) (c .before .before .before .along .result) q (c .before .before .locate-around .result) (c .before .before .locate-around .ensures) _ _ (c .enum-told .given .1) ∙ l .inv .2
 
 returns-3 : tie.Need-returns-3 Inv-loop μ-loop
 returns-3 c =
@@ -87,7 +87,7 @@ returns-3 c =
     let ek : k ≡ suc j = omega (arith, t) in
     let h : i + 1 ≤ 4294967296 = let g = l .inv .1 in omega (arith, t, g) in
     let q = search.point-is (a .from) (a .step) i h (z .result) (z .ensures) (l .phi) (l .theta) (l .inv .3) (l .inv .4) (c .before .before .before .before .before .before .before .turned .result) (c .before .before .before .before .before .before .turned2 .result) (c .before .before .before .before .before .before .before .turned .ensures) (c .before .before .before .before .before .before .turned2 .ensures) (c .before .before .before .before .before .along .result) (c .before .before .before .before .before .along .ensures) in
-    search.other (a .look) (a .m) (now (a .cartesian)) (now (a .left)) (now (a .right)) (a .own) (a .from) (a .step) k j i ek (z .result) (z .ensures) (sym (c .before .before .before .before .before .before .before .before .before .has-left .ensures) ∙ c .before .before .before .before .before .before .before .before .if1 .left) (c .before .before .before .before .before .along .result) q (c .before .before .before .before .locate .result) (c .before .before .before .before .locate .ensures) _ (c .before .before .found .given .1) (c .if2 .taken) ∙ l .inv .2
+    search.other (a .look) (a .m) (now (a .cartesian)) (now (a .left)) (now (a .right)) (a .own) (a .from) (a .step) k j i ek (z .result) (z .ensures) (sym (c .before .before .before .before .before .before .before .before .before .has-left .ensures) ∙ c .before .before .before .before .before .before .before .before .if1 .left) (c .before .before .before .before .before .along .result) q (c .before .before .before .before .locate-around .result) (c .before .before .before .before .locate-around .ensures) _ (c .before .before .found .given .1) (c .if2 .taken) ∙ l .inv .2
 
 add-i : tie.Need-add-i Inv-loop μ-loop
 add-i c = let t = c .before .before .before .before .before .before .before .before .before .before .before .loop-test .taken in let g = c .before .before .before .before .before .before .before .before .before .before .before .before .loop .inv .1 in omega (arith, t, g)
@@ -109,7 +109,7 @@ loop-again c =
     let q = search.point-is (a .from) (a .step) i h (z .result) (z .ensures) (l .phi) (l .theta) (l .inv .3) (l .inv .4) (c .before .before .before .before .before .before .before .turned .result) (c .before .before .before .before .before .before .turned2 .result) (c .before .before .before .before .before .before .before .turned .ensures) (c .before .before .before .before .before .before .turned2 .ensures) (c .before .before .before .before .before .along .result) (c .before .before .before .before .before .along .ensures) in (
       omega (arith, t),
       l .inv .1,
-      search.same (a .look) (a .m) (now (a .cartesian)) (now (a .left)) (now (a .right)) (a .own) (a .from) (a .step) k j i ek (z .result) (z .ensures) (sym (c .before .before .before .before .before .before .before .before .before .has-left .ensures) ∙ c .before .before .before .before .before .before .before .before .if1 .left) (c .before .before .before .before .before .along .result) q (c .before .before .before .before .locate .result) (c .before .before .before .before .locate .ensures) _ (c .before .before .found .given .1) (c .if2 .left) ∙ l .inv .2,
+      search.same (a .look) (a .m) (now (a .cartesian)) (now (a .left)) (now (a .right)) (a .own) (a .from) (a .step) k j i ek (z .result) (z .ensures) (sym (c .before .before .before .before .before .before .before .before .before .has-left .ensures) ∙ c .before .before .before .before .before .before .before .before .if1 .left) (c .before .before .before .before .before .along .result) q (c .before .before .before .before .locate-around .result) (c .before .before .before .before .locate-around .ensures) _ (c .before .before .found .given .1) (c .if2 .left) ∙ l .inv .2,
       search.phi-on (a .from) (a .step) i h (z .result) (z .ensures) (l .phi) (l .theta) (l .inv .3) (l .inv .4) (c .before .before .before .before .before .before .before .turned .result) (c .before .before .before .before .before .before .turned2 .result) (c .before .before .before .before .before .before .before .turned .ensures) (c .before .before .before .before .before .before .turned2 .ensures),
       search.theta-on (a .from) (a .step) i h (z .result) (z .ensures) (l .phi) (l .theta) (l .inv .3) (l .inv .4) (c .before .before .before .before .before .before .before .turned .result) (c .before .before .before .before .before .before .turned2 .result) (c .before .before .before .before .before .before .before .turned .ensures) (c .before .before .before .before .before .before .turned2 .ensures),
     )
@@ -122,4 +122,4 @@ returns-4 c =
     search.at-end (a .look) (a .m) (now (a .cartesian)) (now (a .left)) (now (a .right)) (a .own) (a .from) (a .step) (a .cap - l .i) (l .i) e ∙ l .inv .2
 
 pub search-direction-spec : {M : Type 1} → statement M
-search-direction-spec = tie.close (tie.spec Inv-loop μ-loop loop-holds add-step-to step-to-requires has-left-requires returns turned-requires turned-requires-2 along-requires locate-requires enum-known-found enum-told returns-2 returns-3 add-i loop-less loop-again returns-4)
+search-direction-spec = tie.close (tie.spec Inv-loop μ-loop loop-holds add-step-to step-to-requires has-left-requires returns turned-requires turned-requires-2 along-requires locate-around-requires enum-known-found enum-told returns-2 returns-3 add-i loop-less loop-again returns-4)
