@@ -8,6 +8,7 @@ use lookup::Lookup;
 use points::Point3;
 ghost use Prim.Native.Nat.{_≤_};
 ghost use lib.ListN.{length};
+ghost use Rattle.neighbors.specs.Built.{BuiltBy};
 
 fn point(xs: [f32; 27], k: usize, x: f32, y: f32, z: f32) -> [f32; 27] {
     let mut ys = xs;
@@ -140,8 +141,9 @@ fn queries(look: Lookup, cart: &[f32], left: &[u16], right: &[u16]) {
     ask(look, 10, cart, left, right, point_of(zero / zero, 0.0, 0.0));
 }
 
+// A table is filled over links that were built, and over no others.
 fn table(look: Lookup, cart: &[f32], left: &[u16], right: &[u16], angle: f32, radius: f32)
-    requires { ⌜ (24 ≤ length (now cart)) × (8 ≤ length (now left)) × (8 ≤ length (now right)) ⌝ }
+    requires { ⌜ (24 ≤ length (now cart)) × (8 ≤ length (now left)) × (8 ≤ length (now right)) × BuiltBy look 8 (now cart) (now left) (now right) ⌝ }
 {
     let mut near = [9u16; 51];
     let told = neighbors::fill_neighbors(look, 8, cart, left, right, angle, radius, &mut near);
@@ -151,14 +153,10 @@ fn table(look: Lookup, cart: &[f32], left: &[u16], right: &[u16], angle: f32, ra
     }
 }
 
-// A set that was built, and what it answers.
-fn try_set(look: Lookup, cart: &[f32], left: &[u16], right: &[u16])
-    requires { ⌜ (24 ≤ length (now cart)) × (8 ≤ length (now left)) × (8 ≤ length (now right)) ⌝ }
-{
+// A set's links, and what it answers.
+fn try_set(look: Lookup, cart: &[f32], left: &[u16], right: &[u16]) {
     print_links(b"left", left);
     print_links(b"right", right);
-    table(look, cart, left, right, 2.0, 0.25);
-    table(look, cart, left, right, 45.0, 1.0);
     queries(look, cart, left, right);
 }
 
@@ -168,6 +166,8 @@ fn run(cart: &[f32], left: &mut [u16], right: &mut [u16])
 {
     let look = Lookup::new(cart, 8, left, right);
     print_bounds(look);
+    table(look, cart, left, right, 2.0, 0.25);
+    table(look, cart, left, right, 45.0, 1.0);
     try_set(look, cart, left, right);
     right[0] = 0;
     try_set(look, cart, left, right);

@@ -14,7 +14,7 @@ use Rattle.kdtree.specs.Nearest.{placeOf}
 use Rattle.lookup.specs.Lookup.{locatedAs}
 use Rattle.clearing_laws.proofs.Alone.{alone-found}
 use Rattle.lookup.specs.declared.Lookup.{Lookup}
-use Rattle.lookup.specs.Build.{Links, linked, boxOf}
+use Rattle.lookup.specs.Build.{Links, linksOf, linked, boxOf, lookupOf, Built, builtAs, buildOf}
 use Rattle.lookup_laws.specs.Loaded.{Room}
 use Rattle.neighbors.specs.Built.{BuiltBy, Surrounds}
 
@@ -38,3 +38,9 @@ surrounds look m xs left right B own h b =
     subst (λ (l : List ℕ). Clears m xs l right own b → Surrounds look m xs l right own b) (sym el)
     (subst (λ (r : List ℕ). Clears m xs (over (linked xs m .left) (B .lent .left)) r own b → Surrounds look m xs (over (linked xs m .left) (B .lent .left)) r own b) (sym er)
     (over-built look m xs (B .lent) (B .room) (B .bounds) own h b))
+
+-- what a build promises is what the fill asks
+pub built-by : (look : Lookup) (m : ℕ) (xs : List Float) (l r l₀ r₀ : List ℕ) → Room xs m (linksOf l₀ r₀) → builtAs look (linksOf l r) ≡ buildOf xs m (linksOf l₀ r₀)
+    → BuiltBy look m xs l r
+unfolding buildOf lookupOf
+built-by look m xs l r l₀ r₀ room e = record { lent = linksOf l₀ r₀; room = room; links = ap (λ (b : Built). b .links) e; bounds = ap (λ (b : Built). b .lookup .bounds) e }

@@ -1,6 +1,10 @@
 -- `loads::index` meets its contract. Assumes nothing.
 use denote.Ref.{now}
 use Rattle.loads.proofs.Ways.{is-indexed}
+use native.Mathlib.Omega.{arith}
+use Rattle.lookup.specs.Build.{linksOf}
+use Rattle.lookup_laws.specs.Loaded.{Room}
+use Rattle.neighbors.proofs.Around.{built-by}
 use borrow.Author.Needs.{needs}
 use Rattle.loads.proofs.index.Statement.{statement}
 use Rattle.loads.proofs.index.Tie as tie
@@ -9,7 +13,14 @@ new-requires : tie.Need-new-requires
 new-requires c κs = search needs
 
 fill-neighbors-requires : tie.Need-fill-neighbors-requires
-fill-neighbors-requires c κs = search needs
+fill-neighbors-requires c κs =
+    let z = c .before .before .before .before .before .before .before .before .before .before .before .before .before .before in
+    let a = z .args in
+    let h = z .pre in
+    let n = c .before .before .before .before .before .before .before .new in
+    let k = n .kept in
+    let room : Room (now (a .cartesian)) (a .m) (linksOf (now (a .left)) (now (a .right))) = record { some = h .0; most = h .1; positions = h .2; left = h .3; right = h .4 } in
+    (h .2, omega (arith, k .1 .1 .0, h .3), omega (arith, k .1 .1 .1 .0, h .4), h .1, h .5, built-by (n .result) (a .m) (now (a .cartesian)) _ _ (now (a .left)) (now (a .right)) room (n .ensures))
 
 same-length : tie.Need-same-length
 same-length c = search needs
