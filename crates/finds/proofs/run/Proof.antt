@@ -1,6 +1,9 @@
--- `finds::run` is safe: the lists keep their lengths. Assumes nothing.
+-- `finds::run` is safe: the lists keep their lengths, and tables are filled over links that were built. Assumes nothing.
 use native.Mathlib.Omega.{arith}
-use lib.ListN.{length-set}
+use denote.Ref.{now}
+use Rattle.lookup.specs.Build.{linksOf}
+use Rattle.lookup_laws.specs.Loaded.{Room}
+use Rattle.neighbors.proofs.Around.{built-by}
 use borrow.Author.Needs.{needs}
 use Rattle.finds.proofs.run.Statement.{statement}
 use Rattle.finds.proofs.run.Tie as tie
@@ -11,6 +14,24 @@ new-requires c κs = search needs
 print-bounds-requires : tie.Need-print-bounds-requires
 print-bounds-requires c κs = search needs
 
+table-requires : tie.Need-table-requires
+table-requires c κs =
+    let n = c .before .before .before .before .before .before .before .new in
+    let k = n .kept in
+    let a = c .before .before .before .before .before .before .before .before .before .before .before .before .before .args in
+    let h = c .before .before .before .before .before .before .before .before .before .before .before .before .before .pre in
+    let room : Room (now (a .cart)) 8 (linksOf (now (a .left)) (now (a .right))) = record { some = omega arith; most = omega arith; positions = h .0; left = h .1; right = h .2 } in
+    (h .0, omega (arith, k .1 .1 .0, h .1), omega (arith, k .1 .1 .1 .0, h .2), built-by (n .result) 8 (now (a .cart)) _ _ (now (a .left)) (now (a .right)) room (n .ensures))
+
+table-requires-2 : tie.Need-table-requires-2
+table-requires-2 c κs =
+    let n = c .before .before .before .before .before .before .before .before .before .before .new in
+    let k = n .kept in
+    let a = c .before .before .before .before .before .before .before .before .before .before .before .before .before .before .before .before .args in
+    let h = c .before .before .before .before .before .before .before .before .before .before .before .before .before .before .before .before .pre in
+    let room : Room (now (a .cart)) 8 (linksOf (now (a .left)) (now (a .right))) = record { some = omega arith; most = omega arith; positions = h .0; left = h .1; right = h .2 } in
+    (h .0, omega (arith, k .1 .1 .0, h .1), omega (arith, k .1 .1 .1 .0, h .2), built-by (n .result) 8 (now (a .cart)) _ _ (now (a .left)) (now (a .right)) room (n .ensures))
+
 try-set-requires : tie.Need-try-set-requires
 try-set-requires c κs = search needs
 
@@ -18,10 +39,7 @@ slice-write-right : tie.Need-slice-write-right
 slice-write-right c = search needs
 
 try-set-requires-2 : tie.Need-try-set-requires-2
-try-set-requires-2 c κs =
-    let h = c .before .before .before .before .before .before .before .before .before .before .before .before .before .before .before .before .pre in
-    let k = c .before .before .before .before .before .before .before .before .before .before .new .kept in
-    (h .0, omega (arith, k .1 .1 .0, h .1), simp length-set (omega (arith, k .1 .1 .1 .0, h .2)))
+try-set-requires-2 c κs = search needs
 
 same-length : tie.Need-same-length
 same-length c = search needs
@@ -38,6 +56,8 @@ run-spec =
     (tie.spec
     new-requires
     print-bounds-requires
+    table-requires
+    table-requires-2
     try-set-requires
     slice-write-right
     try-set-requires-2
