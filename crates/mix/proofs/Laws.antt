@@ -1,15 +1,18 @@
 -- What a head and a tail make of an output, that a measurement's taps lie inside the responses, and that the loops' sums are those of the list
 -- of points. Assumes nothing.
-use Prim.Native.Nat.{ℕ, zero, suc, _+_, _-_, _*_, _≤_, _<_}
+use Prim.Native.Nat.{ℕ, zero, suc, _+_, _-_, _*_, _^_, _≤_, _<_}
 use mathlib.Core.Path.{_≡_, refl, sym, ap, _∙_}
 use mathlib.Core.Bool.{Bool, true, false, cond}
 use mathlib.Core.List.{List, [], _∷_, _++_, append-assoc, append-nil}
-use native.Mathlib.Nat.{le-of-lt, le-refl, mul-le-mul, mul-le-mul-right, suc-mul}
+use native.Mathlib.Nat.{le-of-lt, le-refl, lt-trans, mul-le-mul, mul-le-mul-right, suc-mul}
 use native.Mathlib.Omega.{arith}
 use lib.Dec.{ltb}
 use lib.ListN.{drop-of-length-le, length-take, length, take, drop, getD, replicate, length-drop, length-replicate}
 use lib.Seq.{take-take, take-suc, getD-drop}
 use lib.Ieee.{Float}
+use mir.Syntax.{w64}
+use mir.Val.{Fits}
+use borrow.Author.Needs.{scaled-fits}
 use borrow.Author.Tests.{lt-ltb, le-ltb, ltb-true, ltb-false}
 use Rattle.floats.specs.Floats.{zero32}
 use Rattle.lists.specs.Over.{over, upto}
@@ -35,6 +38,31 @@ pub product2 : (k r e n : ℕ) → k < 16384 → r ≤ 8 → e ≤ 1 → n ≤ 8
 product2 k r e n hk hr he hn =
     let h : k * r + e ≤ 131073 = omega (arith, product k r hk hr) in
     mul-le-mul {n₂ = 131073} {m₂ = 8192} h hn
+
+-- ---- sample i of a run of n samples that starts at a: it is there, and its index and where its bytes start fit a usize
+pub within : (a i n len : ℕ) → i < n → a + n ≤ len → a + i < len
+within a i n len h g = omega arith
+
+pub index-fits : (k len : ℕ) → k < len → len < 2 ^ 64 → Fits w64 k
+index-fits k len h g = record { fits = lt-trans h g }
+
+pub bytes-fit : (k len : ℕ) → k < len → len * 4 < 2 ^ 63 → Fits w64 (k * 4)
+bytes-fit k len h g = scaled-fits k len 4 h g
+
+pub next-fits : (i n : ℕ) → i < n → n < 2 ^ 64 → Fits w64 (i + 1)
+next-fits i n h g = record { fits = omega arith }
+
+pub below-all : (i n len len₀ : ℕ) → i < n → n ≤ len₀ → len ≡ len₀ → i < len
+below-all i n len len₀ h g e = omega arith
+
+pub next-in : (i n : ℕ) → i < n → i + 1 ≤ n
+next-in i n h = omega arith
+
+pub next-less : (i n : ℕ) → i < n → n - (i + 1) < n - i
+next-less i n h = omega arith
+
+pub at-end : (i n : ℕ) → i ≤ n → n ≤ i → i ≡ n
+at-end i n h g = omega arith
 
 -- ---- a list of values: the same ones, more of them, and those of a part
 module _ {A : Type 0} where
