@@ -4,7 +4,7 @@ use Prim.Native.Nat.{ℕ, zero, suc, _+_, _-_, _*_, _^_, _≤_, _<_}
 use mathlib.Core.Path.{_≡_, refl, sym, ap, _∙_}
 use mathlib.Core.Bool.{Bool, true, false, cond}
 use mathlib.Core.List.{List, [], _∷_, _++_, append-assoc, append-nil}
-use native.Mathlib.Nat.{le-of-lt, le-refl, lt-trans, mul-le-mul, mul-le-mul-right, suc-mul}
+use native.Mathlib.Nat.{le-of-lt, le-refl, lt-trans, lt-of-lt-of-le, mul-le-mul, mul-le-mul-right, suc-mul}
 use native.Mathlib.Omega.{arith}
 use lib.Dec.{ltb}
 use lib.ListN.{drop-of-length-le, length-take, length, take, drop, getD, replicate, length-drop, length-replicate}
@@ -38,6 +38,10 @@ pub product2 : (k r e n : ℕ) → k < 16384 → r ≤ 8 → e ≤ 1 → n ≤ 8
 product2 k r e n hk hr he hn =
     let h : k * r + e ≤ 131073 = omega (arith, product k r hk hr) in
     mul-le-mul {n₂ = 131073} {m₂ = 8192} h hn
+
+-- what `start` asks of a measurement's number
+pub start-asks : (m r n k e : ℕ) → Sized m r n → k < m → e ≤ 1 → (k < 16384) × (r ≤ 8) × (n ≤ 8192) × (e ≤ 1)
+start-asks m r n k e s hk he = (lt-of-lt-of-le hk (s .high), s .receivers, s .taps, he)
 
 -- ---- sample i of a run of n samples that starts at a: it is there, and its index and where its bytes start fit a usize
 pub within : (a i n len : ℕ) → i < n → a + n ≤ len → a + i < len
@@ -179,3 +183,11 @@ module _ (p : Points) (s : List Float) (r n e : ℕ) where
       → Mix.mix4 s a b c d (p .a .weight) (p .b .weight) (p .c .weight) (p .d .weight) ≡ sampleOf s r n e (listOf p)
   unfolding sampleOf sums listOf
   is4 a b c d ea eb ec ed e4 = rw (ea, eb, ec, ed) (ap counted (sym e4))
+
+-- the last way of a match on the count
+pub four-left : (k : ℕ) → (k ≡ 1 → ⊥) → (k ≡ 2 → ⊥) → (k ≡ 3 → ⊥) → 1 ≤ k → k ≤ 4 → k ≡ 4
+four-left k a b c h g = omega arith
+
+-- an output over which a loop wrote f has g there too, where f and g are one function
+pub wrote-same : {f g : ℕ → Float} → f ≡ g → (k : ℕ) (d out : List Float) → out ≡ over (upto f k) d → out ≡ over (upto g k) d
+wrote-same e k d out h = h ∙ ap (λ (f : ℕ → Float). over (upto f k) d) e
