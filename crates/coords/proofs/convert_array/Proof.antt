@@ -5,7 +5,7 @@ use Rattle.coords.proofs.convert_array.Statement.{statement}
 use Rattle.coords.proofs.convert_array.Tie as tie
 
 judge-values-requires : tie.Need-judge-values-requires
-judge-values-requires c κs = search needs
+judge-values-requires c κs = tt
 
 enum-told : tie.Need-enum-told
 enum-told c = search needs
@@ -23,7 +23,7 @@ returns c =
     stays (a .kind) (now (a .values)) (j .judge-values .result) (j .judge-values .ensures) _ _ (c .enum-told2 .given .1)
 
 convert-triplets-requires : tie.Need-convert-triplets-requires
-convert-triplets-requires c κs = search needs
+convert-triplets-requires c κs = tt
 
 same-length-2 : tie.Need-same-length-2
 same-length-2 c = search needs

@@ -24,7 +24,7 @@ point-at-requires : tie.Need-point-at-requires Inv-loop μ-loop
 point-at-requires c κs = let h : 3 * c .before .before .loop .place + 2 < length (c .before .before .loop .values) = omega arith in h
 
 turn-triplet-requires : tie.Need-turn-triplet-requires Inv-loop μ-loop
-turn-triplet-requires c κs = search needs
+turn-triplet-requires c κs = tt
 
 mul-at : tie.Need-mul-at Inv-loop μ-loop
 mul-at c = search needs
