@@ -192,6 +192,9 @@ pub push3 : (p : Points) (s : Share) → p .count ≡ 3 → listOf (record { cou
 unfolding listOf
 push3 p s e = sym (ap (λ (j : ℕ). take j (fours p) ++ (s ∷ [])) e)
 
+pub at-most-three : (a b : ℕ) → b ≤ a + 1 → a ≤ 2 → b ≤ 3
+at-most-three a b h g = omega arith
+
 pub divided-list : (p : Points) (sum : Float) (a b c d : Share) → a ≡ part sum (p .a) → b ≡ part sum (p .b) → c ≡ part sum (p .c) → d ≡ part sum (p .d)
     → listOf (record { count = p .count; a = a; b = b; c = c; d = d }) ≡ map (part sum) (listOf p)
 unfolding listOf
