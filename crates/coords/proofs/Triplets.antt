@@ -1,18 +1,55 @@
 -- The loop that changes a list three values at a time, for any change of a triplet: what is changed so far, followed by what is left to change,
 -- is the whole. Assumes nothing.
-use Prim.Native.Nat.{ℕ, suc, _+_, _*_, _<_}
+use Prim.Native.Nat.{ℕ, suc, _+_, _-_, _*_, _/_, _^_, _≤_, _<_}
 use mathlib.Core.Path.{_≡_, refl, _∙_}
 use mathlib.Core.List.{List, [], _∷_, _++_, append-assoc}
 use native.Mathlib.Omega.{arith}
-use lib.ListN.{length, take, drop, getD, set, length-append, length-drop, take-append-drop}
+use lib.ListN.{length, take, drop, getD, set, length-append, length-drop, take-append-drop, length-set}
 use lib.Seq.{drop-cons, length-take-le, sets-eq, take-at, drop-at}
 use lib.Ieee.{Float, nan}
+use mir.Syntax.{w64}
+use mir.Val.{Fits}
 use Rattle.points.specs.declared.Point3.{Point3}
 use Rattle.points.specs.Points.{pointAt}
 use Rattle.limits.specs.declared.Verdict.{Verdict}
 use Rattle.limits.specs.declared.Verdict.the-variants.{Fine, Refused}
 use Rattle.limits.specs.Refusals.{verdictOf, valueLines}
 use Rattle.coords.specs.Arrays.{turned, byTriplets, convertedAs, keptOr, convertOf}
+
+-- ---- the loop's places: one below a third of the count has its three values there, and what is counted fits a usize
+pub three-there : (place len : ℕ) → place < len / 3 → 3 * place + 2 < len
+three-there place len h = omega arith
+
+pub first-there : (i len : ℕ) → i + 2 < len → i < len
+first-there i len h = omega arith
+
+pub second-there : (i len : ℕ) → i + 2 < len → i + 1 < len
+second-there i len h = omega arith
+
+pub as-long : (i len₀ len : ℕ) → i < len₀ → len ≡ len₀ → i < len
+as-long i len₀ len h e = omega arith
+
+pub index-fits : (i len : ℕ) → i < len → len < 2 ^ 64 → Fits w64 i
+index-fits i len h g = record { fits = omega arith }
+
+pub next-fits : (place len : ℕ) → place < len / 3 → len < 2 ^ 64 → Fits w64 (place + 1)
+next-fits place len h g = record { fits = omega arith }
+
+pub next-in : (place n : ℕ) → place < n → place + 1 ≤ n
+next-in place n h = omega arith
+
+pub next-less : (place n : ℕ) → place < n → n - (place + 1) < n - place
+next-less place n h = omega arith
+
+pub at-end : (place len₀ len : ℕ) → len₀ / 3 ≤ place → len ≡ len₀ → len < 3 * place + 3
+at-end place len₀ len h e = omega arith
+
+-- a store keeps the count
+pub in-set : (k : ℕ) (xs : List Float) (i : ℕ) (v : Float) → k < length xs → k < length (set xs i v)
+in-set k xs i v h = rw (length-set xs i v) h
+
+pub length-sets : (xs : List Float) (i j k : ℕ) (x y z : Float) → length (set (set (set xs i x) j y) k z) ≡ length xs
+length-sets xs i j k x y z = simp length-set
 
 -- the values of a triplet
 abbrev pub valuesOf : Point3 → List Float

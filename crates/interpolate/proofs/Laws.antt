@@ -13,12 +13,13 @@ use Rattle.points.specs.declared.Point3.{Point3}
 use Rattle.floats.specs.Floats.{zero32}
 use Rattle.delays.specs.declared.Samples.{Samples}
 use Rattle.delays.specs.declared.Seconds.{Seconds}
+use Rattle.delays.specs.declared.Outcome.the-variants.{Exact, Blended}
 use Rattle.delays.specs.Delays.{secondsOf}
 use Rattle.mix.specs.declared.Share.{Share}
 use Rattle.mix.specs.declared.Points.{Points}
-use Rattle.mix.specs.Mix.{listOf, sums, tailed}
+use Rattle.mix.specs.Mix.{listOf, sums, tailed, plus, outOf, tapOf, sampleOf}
 use Rattle.interpolate.specs.declared.Stride.{Stride}
-use Rattle.interpolate.specs.Blend.{delayAt, plainDelay, blendDelay, at, nowhere, strideOf, absent, known, allKnown, closer, nothing, shareOf, taken, pairOf, largest32, tiny32, close32, neighborsOf, distanceOf, pointsOf, Filter, extractOf, blendOf, refusedOf, weighedOf, interpolateOf, pick, totalOf, part}
+use Rattle.interpolate.specs.Blend.{delayAt, plainDelay, blendDelay, at, nowhere, strideOf, absent, known, allKnown, closer, nothing, shareOf, taken, pairOf, largest32, tiny32, close32, neighborsOf, distanceOf, pointsOf, Filter, filterOf, extractOf, blendOf, refusedOf, weighedOf, interpolateOf, pick, totalOf, part}
 use Rattle.interpolate.specs.declared.Closest.{Closest}
 use Rattle.interpolate.specs.declared.Neighbors.{Neighbors}
 
@@ -95,6 +96,31 @@ module _ (p : Points) (f : ℕ → Float) where
   unfolding listOf
   sums-at k e = ap summed (sym e)
 
+-- what f says of each place, weighed and added up as it was computed
+module _ (p : Points) (f : ℕ → Float) (x : Float) (ex : x ≡ f (p .a .number)) where
+  pub weighed1 : p .count ≡ 1 → plus zero32 (p .a .weight) x ≡ sums f zero32 (listOf p)
+  unfolding sums
+  weighed1 h = rw ex (sums-at p f 1 h)
+
+  module _ (y : Float) (ey : y ≡ f (p .b .number)) where
+    pub weighed2 : p .count ≡ 2 → plus (plus zero32 (p .a .weight) x) (p .b .weight) y ≡ sums f zero32 (listOf p)
+    unfolding sums
+    weighed2 h = rw (ex, ey) (sums-at p f 2 h)
+
+    module _ (z : Float) (ez : z ≡ f (p .c .number)) where
+      pub weighed3 : p .count ≡ 3 → plus (plus (plus zero32 (p .a .weight) x) (p .b .weight) y) (p .c .weight) z ≡ sums f zero32 (listOf p)
+      unfolding sums
+      weighed3 h = rw (ex, ey, ez) (sums-at p f 3 h)
+
+      pub weighed4 : (v : Float) → v ≡ f (p .d .number) → p .count ≡ 4
+          → plus (plus (plus (plus zero32 (p .a .weight) x) (p .b .weight) y) (p .c .weight) z) (p .d .weight) v ≡ sums f zero32 (listOf p)
+      unfolding sums
+      weighed4 v ev h = rw (ex, ey, ez, ev) (sums-at p f 4 h)
+
+-- the last way of a match on the count
+pub four-left : (k : ℕ) → (k ≡ 1 → ⊥) → (k ≡ 2 → ⊥) → (k ≡ 3 → ⊥) → 1 ≤ k → k ≤ 4 → k ≡ 4
+four-left k a b c h g = omega arith
+
 pub total-at : (p : Points) (k : ℕ) → p .count ≡ k → totalOf (take k (fours p)) ≡ totalOf (listOf p)
 unfolding listOf
 total-at p k e = ap (λ (j : ℕ). totalOf (take j (fours p))) (sym e)
@@ -166,6 +192,9 @@ pub push3 : (p : Points) (s : Share) → p .count ≡ 3 → listOf (record { cou
 unfolding listOf
 push3 p s e = sym (ap (λ (j : ℕ). take j (fours p) ++ (s ∷ [])) e)
 
+pub at-most-three : (a b : ℕ) → b ≤ a + 1 → a ≤ 2 → b ≤ 3
+at-most-three a b h g = omega arith
+
 pub divided-list : (p : Points) (sum : Float) (a b c d : Share) → a ≡ part sum (p .a) → b ≡ part sum (p .b) → c ≡ part sum (p .c) → d ≡ part sum (p .d)
     → listOf (record { count = p .count; a = a; b = b; c = c; d = d }) ≡ map (part sum) (listOf p)
 unfolding listOf
@@ -222,6 +251,13 @@ module _ (delays : List Float) (m r e : ℕ) (s : Stride) (q : s ≡ strideOf (l
   unfolding blendDelay
   blend-none ps h = rw (← q, h)
 
+-- the three coordinates and the six entries of a measurement are there
+pub three-in : (k m len : ℕ) → k < m → 3 * m ≤ len → 3 * k + 2 < len
+three-in k m len h g = omega arith
+
+pub six-in : (k m len : ℕ) → k < m → 6 * m ≤ len → 6 * k + 6 ≤ len
+six-in k m len h g = omega arith
+
 pub times : (m r : ℕ) → m ≤ 16384 → r ≤ 8 → m * r ≤ 131072
 times m r hm hr = mul-le-mul {n₂ = 16384} {m₂ = 8} hm hr
 
@@ -230,23 +266,38 @@ module _ (m r n : ℕ) (resp delays : List Float) (rate : Float) (ll rl : ℕ) (
   abbrev answer : Filter
   answer = interpolateOf m r n resp delays rate ll rl cart near q k
 
-  pub way-close : (x : Float) → x ≡ distanceOf cart q k → lt x close32 ≡ true → extractOf m r n resp delays rate ll rl k ≡ answer
+  pub way-close : {o : Filter} (x : Float) → o ≡ extractOf m r n resp delays rate ll rl k → x ≡ distanceOf cart q k → lt x close32 ≡ true → o ≡ answer
   unfolding interpolateOf pick
-  way-close x e h = rw (← e, h)
+  way-close x eo e h = eo ∙ rw (← e, h)
 
-  pub way-refused : (x : Float) (s : Neighbors) → x ≡ distanceOf cart q k → lt x close32 ≡ false → s ≡ neighborsOf near k → allKnown m s ≡ false → refusedOf 9 0 ll rl ≡ answer
+  pub way-refused : {o : Filter} (x : Float) (s : Neighbors) → o ≡ refusedOf 9 0 ll rl → x ≡ distanceOf cart q k → lt x close32 ≡ false → s ≡ neighborsOf near k → allKnown m s ≡ false → o ≡ answer
   unfolding interpolateOf pick
-  way-refused x s e h es g = rw (← e, h, ← es, g)
+  way-refused x s eo e h es g = eo ∙ rw (← e, h, ← es, g)
 
-  pub way-light : (x : Float) (s : Neighbors) (ps : List Share) (t : Float) → x ≡ distanceOf cart q k → lt x close32 ≡ false → s ≡ neighborsOf near k → allKnown m s ≡ true
-      → ps ≡ pointsOf (distanceOf cart q) s k → t ≡ totalOf ps → lt t tiny32 ≡ true → extractOf m r n resp delays rate ll rl k ≡ answer
+  pub way-light : {o : Filter} (x : Float) (s : Neighbors) (ps : List Share) (t : Float) → o ≡ extractOf m r n resp delays rate ll rl k → x ≡ distanceOf cart q k → lt x close32 ≡ false → s ≡ neighborsOf near k → allKnown m s ≡ true
+      → ps ≡ pointsOf (distanceOf cart q) s k → t ≡ totalOf ps → lt t tiny32 ≡ true → o ≡ answer
   unfolding interpolateOf weighedOf pick
-  way-light x s ps t e h es g ep et ht = rw (← e, h, ← es, g, ← ep, ← et, ht)
+  way-light x s ps t eo e h es g ep et ht = eo ∙ rw (← e, h, ← es, g, ← ep, ← et, ht)
 
-  pub way-blended : (x : Float) (s : Neighbors) (ps : List Share) (t : Float) (qs : List Share) → x ≡ distanceOf cart q k → lt x close32 ≡ false → s ≡ neighborsOf near k → allKnown m s ≡ true
-      → ps ≡ pointsOf (distanceOf cart q) s k → t ≡ totalOf ps → lt t tiny32 ≡ false → qs ≡ map (part t) ps → blendOf m r n resp delays rate ll rl qs ≡ answer
+  pub way-blended : {o : Filter} (x : Float) (s : Neighbors) (ps : List Share) (t : Float) (qs : List Share) → o ≡ blendOf m r n resp delays rate ll rl qs → x ≡ distanceOf cart q k → lt x close32 ≡ false → s ≡ neighborsOf near k → allKnown m s ≡ true
+      → ps ≡ pointsOf (distanceOf cart q) s k → t ≡ totalOf ps → lt t tiny32 ≡ false → qs ≡ map (part t) ps → o ≡ answer
   unfolding interpolateOf weighedOf pick
-  way-blended x s ps t qs e h es g ep et ht eq = rw (← e, h, ← es, g, ← ep, ← et, ht, ← eq)
+  way-blended x s ps t qs eo e h es g ep et ht eq = eo ∙ rw (← e, h, ← es, g, ← ep, ← et, ht, ← eq)
+
+-- ---- an answer and two outputs, as they were made
+module _ (m r n : ℕ) (resp delays : List Float) (rate : Float) (ll rl : ℕ) (a b : Samples) (s t : Seconds) (left right : List Float) where
+  pub extracted : (k : ℕ) → a ≡ plainDelay delays m r 0 k → b ≡ plainDelay delays m r 1 k → s ≡ secondsOf a rate → t ≡ secondsOf b rate
+      → left ≡ outOf (λ i. tapOf resp r n 0 i k) n ll → right ≡ outOf (λ i. tapOf resp r n 1 i k) n rl → filterOf (Exact s t) left right ≡ extractOf m r n resp delays rate ll rl k
+  unfolding extractOf
+  extracted k ea eb es et el er =
+      λ i. record { answer = Exact (seconds rate es ea i) (seconds rate et eb i); left = el i; right = er i }
+
+  pub blended : (p : Points) → p .count ≤ 4 → a ≡ blendDelay delays m r 0 (listOf p) → b ≡ blendDelay delays m r 1 (listOf p) → s ≡ secondsOf a rate → t ≡ secondsOf b rate
+      → left ≡ outOf (sampleOf resp r n 0 (listOf p)) n ll → right ≡ outOf (sampleOf resp r n 1 (listOf p)) n rl
+      → filterOf (Blended s t (p .count)) left right ≡ blendOf m r n resp delays rate ll rl (listOf p)
+  unfolding blendOf
+  blended p h ea eb es et el er =
+      λ i. record { answer = Blended (seconds rate es ea i) (seconds rate et eb i) (sym (count-length p h) i); left = el i; right = er i }
 
 pub silent : (d : List Float) → tailed 0 d ≡ replicate (length d) zero32
 unfolding tailed

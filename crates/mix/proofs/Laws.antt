@@ -1,15 +1,18 @@
 -- What a head and a tail make of an output, that a measurement's taps lie inside the responses, and that the loops' sums are those of the list
 -- of points. Assumes nothing.
-use Prim.Native.Nat.{ℕ, zero, suc, _+_, _-_, _*_, _≤_, _<_}
+use Prim.Native.Nat.{ℕ, zero, suc, _+_, _-_, _*_, _^_, _≤_, _<_}
 use mathlib.Core.Path.{_≡_, refl, sym, ap, _∙_}
 use mathlib.Core.Bool.{Bool, true, false, cond}
 use mathlib.Core.List.{List, [], _∷_, _++_, append-assoc, append-nil}
-use native.Mathlib.Nat.{le-of-lt, le-refl, mul-le-mul, mul-le-mul-right, suc-mul}
+use native.Mathlib.Nat.{le-of-lt, le-refl, lt-trans, lt-of-lt-of-le, mul-le-mul, mul-le-mul-right, suc-mul}
 use native.Mathlib.Omega.{arith}
 use lib.Dec.{ltb}
 use lib.ListN.{drop-of-length-le, length-take, length, take, drop, getD, replicate, length-drop, length-replicate}
 use lib.Seq.{take-take, take-suc, getD-drop}
 use lib.Ieee.{Float}
+use mir.Syntax.{w64}
+use mir.Val.{Fits}
+use borrow.Author.Needs.{scaled-fits}
 use borrow.Author.Tests.{lt-ltb, le-ltb, ltb-true, ltb-false}
 use Rattle.floats.specs.Floats.{zero32}
 use Rattle.lists.specs.Over.{over, upto}
@@ -35,6 +38,35 @@ pub product2 : (k r e n : ℕ) → k < 16384 → r ≤ 8 → e ≤ 1 → n ≤ 8
 product2 k r e n hk hr he hn =
     let h : k * r + e ≤ 131073 = omega (arith, product k r hk hr) in
     mul-le-mul {n₂ = 131073} {m₂ = 8192} h hn
+
+-- what `start` asks of a measurement's number
+pub start-asks : (m r n k e : ℕ) → Sized m r n → k < m → e ≤ 1 → (k < 16384) × (r ≤ 8) × (n ≤ 8192) × (e ≤ 1)
+start-asks m r n k e s hk he = (lt-of-lt-of-le hk (s .high), s .receivers, s .taps, he)
+
+-- ---- sample i of a run of n samples that starts at a: it is there, and its index and where its bytes start fit a usize
+pub within : (a i n len : ℕ) → i < n → a + n ≤ len → a + i < len
+within a i n len h g = omega arith
+
+pub index-fits : (k len : ℕ) → k < len → len < 2 ^ 64 → Fits w64 k
+index-fits k len h g = record { fits = lt-trans h g }
+
+pub bytes-fit : (k len : ℕ) → k < len → len * 4 < 2 ^ 63 → Fits w64 (k * 4)
+bytes-fit k len h g = scaled-fits k len 4 h g
+
+pub next-fits : (i n : ℕ) → i < n → n < 2 ^ 64 → Fits w64 (i + 1)
+next-fits i n h g = record { fits = omega arith }
+
+pub below-all : (i n len len₀ : ℕ) → i < n → n ≤ len₀ → len ≡ len₀ → i < len
+below-all i n len len₀ h g e = omega arith
+
+pub next-in : (i n : ℕ) → i < n → i + 1 ≤ n
+next-in i n h = omega arith
+
+pub next-less : (i n : ℕ) → i < n → n - (i + 1) < n - i
+next-less i n h = omega arith
+
+pub at-end : (i n : ℕ) → i ≤ n → n ≤ i → i ≡ n
+at-end i n h g = omega arith
 
 -- ---- a list of values: the same ones, more of them, and those of a part
 module _ {A : Type 0} where
@@ -151,3 +183,11 @@ module _ (p : Points) (s : List Float) (r n e : ℕ) where
       → Mix.mix4 s a b c d (p .a .weight) (p .b .weight) (p .c .weight) (p .d .weight) ≡ sampleOf s r n e (listOf p)
   unfolding sampleOf sums listOf
   is4 a b c d ea eb ec ed e4 = rw (ea, eb, ec, ed) (ap counted (sym e4))
+
+-- the last way of a match on the count
+pub four-left : (k : ℕ) → (k ≡ 1 → ⊥) → (k ≡ 2 → ⊥) → (k ≡ 3 → ⊥) → 1 ≤ k → k ≤ 4 → k ≡ 4
+four-left k a b c h g = omega arith
+
+-- an output over which a loop wrote f has g there too, where f and g are one function
+pub wrote-same : {f g : ℕ → Float} → f ≡ g → (k : ℕ) (d out : List Float) → out ≡ over (upto f k) d → out ≡ over (upto g k) d
+wrote-same e k d out h = h ∙ ap (λ (f : ℕ → Float). over (upto f k) d) e

@@ -1,19 +1,18 @@
 use Rattle.coords.specs.Coords.{sphericalOf}
-use borrow.Author.Needs.{needs}
 use Rattle.coords.proofs.cartesian_to_spherical.Statement.{statement}
 use Rattle.coords.proofs.cartesian_to_spherical.Tie as tie
 
 atan2-requires : tie.Need-atan2-requires
-atan2-requires c κs = search needs
+atan2-requires c κs = tt
 
 root-requires : tie.Need-root-requires
-root-requires c κs = search needs
+root-requires c κs = tt
 
 atan2-requires-2 : tie.Need-atan2-requires-2
-atan2-requires-2 c κs = search needs
+atan2-requires-2 c κs = tt
 
 radius-requires : tie.Need-radius-requires
-radius-requires c κs = search needs
+radius-requires c κs = tt
 
 returns : tie.Need-returns
 unfolding sphericalOf

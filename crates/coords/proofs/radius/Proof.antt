@@ -1,10 +1,9 @@
 use Rattle.coords.specs.Coords.{radiusOf}
-use borrow.Author.Needs.{needs}
 use Rattle.coords.proofs.radius.Statement.{statement}
 use Rattle.coords.proofs.radius.Tie as tie
 
 root-requires : tie.Need-root-requires
-root-requires c κs = search needs
+root-requires c κs = tt
 
 returns : tie.Need-returns
 unfolding radiusOf

@@ -1,16 +1,15 @@
 use Rattle.coords.specs.Coords.{cartesianOf}
-use borrow.Author.Needs.{needs}
 use Rattle.coords.proofs.spherical_to_cartesian.Statement.{statement}
 use Rattle.coords.proofs.spherical_to_cartesian.Tie as tie
 
 turn-of-requires : tie.Need-turn-of-requires
-turn-of-requires c κs = search needs
+turn-of-requires c κs = tt
 
 turn-of-requires-2 : tie.Need-turn-of-requires-2
-turn-of-requires-2 c κs = search needs
+turn-of-requires-2 c κs = tt
 
 along-requires : tie.Need-along-requires
-along-requires c κs = search needs
+along-requires c κs = tt
 
 returns : tie.Need-returns
 unfolding cartesianOf

@@ -1,13 +1,12 @@
 use Rattle.coords.specs.Coords.{turnOf}
-use borrow.Author.Needs.{needs}
 use Rattle.coords.proofs.turn_of.Statement.{statement}
 use Rattle.coords.proofs.turn_of.Tie as tie
 
 sin-requires : tie.Need-sin-requires
-sin-requires c κs = search needs
+sin-requires c κs = tt
 
 cos-requires : tie.Need-cos-requires
-cos-requires c κs = search needs
+cos-requires c κs = tt
 
 returns : tie.Need-returns
 unfolding turnOf

@@ -2,15 +2,14 @@ use Rattle.coords.specs.Arrays.{turned, laid}
 use mathlib.Core.Path.{ap}
 use Rattle.coords.specs.Arrays.{turned}
 use borrow.Author.Tests.{ne-eqb}
-use borrow.Author.Needs.{needs}
 use Rattle.coords.proofs.turn_triplet.Statement.{statement}
 use Rattle.coords.proofs.turn_triplet.Tie as tie
 
 cartesian-to-spherical-requires : tie.Need-cartesian-to-spherical-requires
-cartesian-to-spherical-requires c κs = search needs
+cartesian-to-spherical-requires c κs = tt
 
 spherical-to-cartesian-requires : tie.Need-spherical-to-cartesian-requires
-spherical-to-cartesian-requires c κs = search needs
+spherical-to-cartesian-requires c κs = tt
 
 returns : tie.Need-returns
 unfolding turned

@@ -2,25 +2,24 @@
 use Prim.Native.Nat.{ℕ}
 use mathlib.Core.Path.{sym, ap, _∙_}
 use mathlib.Core.List.{List, _++_, append-nil}
-use native.Mathlib.Omega.{arith}
+use native.Mathlib.Nat.{le-of-eq, le-add-right}
 use denote.Ref.{now}
 use lib.Ieee.{Float, ofBits}
 use Rattle.mix.specs.declared.Share.{Share}
 use Rattle.mix.specs.Mix.{listOf}
 use Rattle.interpolate.specs.Blend.{distanceOf}
 use Rattle.interpolate.proofs.Laws.{pair-yes, pair-no, pair-in}
-use borrow.Author.Needs.{needs}
 use Rattle.interpolate.proofs.add_closer_neighbor.Statement.{statement}
 use Rattle.interpolate.proofs.add_closer_neighbor.Tie as tie
 
 nearer-requires : tie.Need-nearer-requires
-nearer-requires c κs = search needs
+nearer-requires c κs = (c .before .pre .2, c .before .pre .4)
 
 nearer-requires-2 : tie.Need-nearer-requires-2
-nearer-requires-2 c κs = search needs
+nearer-requires-2 c κs = (c .before .before .pre .3, c .before .before .pre .4)
 
 push-requires : tie.Need-push-requires
-push-requires c κs = search needs
+push-requires c κs = (c .before .before .before .before .before .before .before .pre .0 .one, c .before .before .before .before .before .before .before .pre .1)
 
 returns : tie.Need-returns
 unfolding ofBits
@@ -34,7 +33,7 @@ returns c =
     let d : ℕ → Float = distanceOf (now (a .cartesian)) (a .position) in (
       c .push .ensures .0 ∙ ap (λ (l : List Share). listOf (a .p) ++ l) (sym (pair-yes d (a .a) (a .b) (f .result) (b .result) (f .ensures) (b .ensures) t)),
       c .push .ensures .2 (a .m) (s .pre .0) (pair-in (a .m) d (a .a) (a .b) (f .result) (b .result) (f .ensures) (b .ensures) (s .pre .2) (s .pre .3) t),
-      omega (arith, c .push .ensures .1),
+      le-of-eq (c .push .ensures .1),
     )
 
 returns-2 : tie.Need-returns-2
@@ -47,7 +46,7 @@ returns-2 c =
     let d : ℕ → Float = distanceOf (now (a .cartesian)) (a .position) in (
       sym (append-nil (listOf (a .p))) ∙ ap (λ (l : List Share). listOf (a .p) ++ l) (sym (pair-no d (a .a) (a .b) (f .result) (b .result) (f .ensures) (b .ensures) (c .if1 .left))),
       s .pre .0,
-      omega arith,
+      le-add-right (a .p .count) 1,
     )
 
 pub add-closer-neighbor-spec : {M : Type 1} → statement M

@@ -1,26 +1,25 @@
 -- `interpolate::all_known` meets its contract. Assumes nothing.
 use Rattle.interpolate.specs.Blend.{allKnown}
-use borrow.Author.Needs.{needs}
 use Rattle.interpolate.proofs.all_known.Statement.{statement}
 use Rattle.interpolate.proofs.all_known.Tie as tie
 
 known-requires : tie.Need-known-requires
-known-requires c κs = search needs
+known-requires c κs = tt
 
 known-requires-2 : tie.Need-known-requires-2
-known-requires-2 c κs = search needs
+known-requires-2 c κs = tt
 
 known-requires-3 : tie.Need-known-requires-3
-known-requires-3 c κs = search needs
+known-requires-3 c κs = tt
 
 known-requires-4 : tie.Need-known-requires-4
-known-requires-4 c κs = search needs
+known-requires-4 c κs = tt
 
 known-requires-5 : tie.Need-known-requires-5
-known-requires-5 c κs = search needs
+known-requires-5 c κs = tt
 
 known-requires-6 : tie.Need-known-requires-6
-known-requires-6 c κs = search needs
+known-requires-6 c κs = tt
 
 returns : tie.Need-returns
 unfolding allKnown

@@ -1,13 +1,12 @@
 use Rattle.limits.specs.Allowed.{blendFits}
-use borrow.Author.Needs.{needs}
 use Rattle.limits.proofs.blend_fits.Statement.{statement}
 use Rattle.limits.proofs.blend_fits.Tie as tie
 
 plain-fits-requires : tie.Need-plain-fits-requires
-plain-fits-requires c κs = search needs
+plain-fits-requires c κs = c .pre
 
 neighbours-fit-requires : tie.Need-neighbours-fit-requires
-neighbours-fit-requires c κs = search needs
+neighbours-fit-requires c κs = c .before .pre
 
 returns : tie.Need-returns
 unfolding blendFits

@@ -1,17 +1,16 @@
 use mathlib.Core.Path.{sym, _∙_}
 use Rattle.limits.proofs.Lines.{stops, goes-on, as-met, held}
-use borrow.Author.Needs.{needs}
 use Rattle.limits.proofs.judge_load.Statement.{statement}
 use Rattle.limits.proofs.judge_load.Tie as tie
 
 kind-ok-requires : tie.Need-kind-ok-requires
-kind-ok-requires c κs = search needs
+kind-ok-requires c κs = tt
 
 returns : tie.Need-returns
 returns c = sym (stops _ _ (as-met (c .before .kind-ok .ensures) (c .if1 .taken)))
 
 sizes-ok-requires : tie.Need-sizes-ok-requires
-sizes-ok-requires c κs = search needs
+sizes-ok-requires c κs = tt
 
 returns-2 : tie.Need-returns-2
 returns-2 c = sym (goes-on _ _ (as-met (c .before .before .before .kind-ok .ensures) (c .before .before .if1 .left)) ∙ stops _ _ (as-met (c .before .sizes-ok .ensures) (c .if2 .taken)))
@@ -23,7 +22,7 @@ returns-3 : tie.Need-returns-3
 returns-3 c = sym (goes-on _ _ (as-met (c .before .before .before .before .before .kind-ok .ensures) (c .before .before .before .before .if1 .left)) ∙ goes-on _ _ (as-met (c .before .before .before .sizes-ok .ensures) (c .before .before .if2 .left)) ∙ stops _ _ (as-met (c .before .load-fits .ensures) (c .if3 .taken)))
 
 judge-content-requires : tie.Need-judge-content-requires
-judge-content-requires c κs = search needs
+judge-content-requires c κs = tt
 
 returns-4 : tie.Need-returns-4
 returns-4 c = c .judge-content .ensures ∙ sym (goes-on _ _ (as-met (c .before .before .before .before .before .before .kind-ok .ensures) (c .before .before .before .before .before .if1 .left)) ∙ goes-on _ _ (as-met (c .before .before .before .before .sizes-ok .ensures) (c .before .before .before .if2 .left)) ∙ goes-on _ _ (as-met (c .before .before .load-fits .ensures) (c .before .if3 .left)))

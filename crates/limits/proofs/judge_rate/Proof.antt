@@ -1,11 +1,10 @@
 use mathlib.Core.Path.{sym, _∙_}
 use Rattle.limits.proofs.Lines.{stops, goes-on, none, as-met}
-use borrow.Author.Needs.{needs}
 use Rattle.limits.proofs.judge_rate.Statement.{statement}
 use Rattle.limits.proofs.judge_rate.Tie as tie
 
 rate-ok-requires : tie.Need-rate-ok-requires
-rate-ok-requires c κs = search needs
+rate-ok-requires c κs = tt
 
 returns : tie.Need-returns
 returns c = sym (stops _ _ (as-met (c .before .rate-ok .ensures) (c .if1 .taken)))

@@ -1,6 +1,7 @@
 use mathlib.Core.Path.{sym, _∙_}
 use Prim.Native.Nat.{_-_, _%_}
 use mathlib.Core.List.{[]}
+use native.Mathlib.Nat.{sub-le}
 use lib.ListN.{length}
 use denote.Ref.{now}
 use Rattle.limits.proofs.Lines.{none}
@@ -13,7 +14,7 @@ sub-whole : tie.Need-sub-whole
 sub-whole c = search needs
 
 first-bad-requires : tie.Need-first-bad-requires
-first-bad-requires c κs = search needs
+first-bad-requires c κs = sub-le _ _
 
 returns : tie.Need-returns
 returns c =

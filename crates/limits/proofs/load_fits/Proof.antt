@@ -1,7 +1,6 @@
 use Rattle.limits.proofs.Passed.{sized}
 use native.Mathlib.Omega.{arith}
 use Rattle.limits.specs.Allowed.{loadFits}
-use borrow.Author.Needs.{needs}
 use Rattle.limits.proofs.load_fits.Statement.{statement}
 use Rattle.limits.proofs.load_fits.Tie as tie
 
@@ -9,7 +8,7 @@ mul-result : tie.Need-mul-result
 mul-result c = omega (arith, sized (c .before .args .s) (c .before .pre) .most)
 
 blend-fits-requires : tie.Need-blend-fits-requires
-blend-fits-requires c κs = search needs
+blend-fits-requires c κs = c .before .pre
 
 returns : tie.Need-returns
 unfolding loadFits

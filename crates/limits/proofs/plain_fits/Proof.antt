@@ -1,13 +1,12 @@
 use Rattle.limits.specs.Allowed.{plainFits}
-use borrow.Author.Needs.{needs}
 use Rattle.limits.proofs.plain_fits.Statement.{statement}
 use Rattle.limits.proofs.plain_fits.Tie as tie
 
 tree-fits-requires : tie.Need-tree-fits-requires
-tree-fits-requires c κs = search needs
+tree-fits-requires c κs = c .pre
 
 responses-fit-requires : tie.Need-responses-fit-requires
-responses-fit-requires c κs = search needs
+responses-fit-requires c κs = c .before .pre
 
 returns : tie.Need-returns
 unfolding plainFits

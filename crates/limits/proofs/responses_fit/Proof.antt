@@ -1,8 +1,8 @@
 use native.Mathlib.Nat.{mul-le-mul}
 use Rattle.limits.proofs.Passed.{sized, product}
 use native.Mathlib.Omega.{arith}
+use mathlib.Core.Path.{refl}
 use Rattle.limits.specs.Allowed.{responsesFit}
-use borrow.Author.Needs.{needs}
 use Rattle.limits.proofs.responses_fit.Statement.{statement}
 use Rattle.limits.proofs.responses_fit.Tie as tie
 
@@ -18,7 +18,7 @@ mul-result-2 c =
 
 returns : tie.Need-returns
 unfolding responsesFit
-returns c = search needs
+returns c = refl
 
 pub responses-fit-spec : {M : Type 1} → statement M
 responses-fit-spec = tie.close (tie.spec mul-result mul-result-2 returns)

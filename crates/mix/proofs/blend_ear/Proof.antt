@@ -7,12 +7,11 @@ use lib.ListN.{length}
 use lib.Ieee.{Float}
 use Rattle.mix.specs.Mix.{sampleOf, listOf, tailed}
 use Rattle.mix.proofs.Laws.{whole, lesser-left, lesser-right, lesser-past}
-use borrow.Author.Needs.{needs}
 use Rattle.mix.proofs.blend_ear.Statement.{statement}
 use Rattle.mix.proofs.blend_ear.Tie as tie
 
 lesser-requires : tie.Need-lesser-requires
-lesser-requires c κs = search needs
+lesser-requires c κs = tt
 
 bound-left : (c : tie.After-head-arg) → c .before .lesser .result ≤ c .before .before .before .before .args .n
 bound-left c = rw (c .before .lesser .ensures) (lesser-left _ _)
@@ -30,7 +29,7 @@ silence-requires : tie.Need-silence-requires
 silence-requires c κs = omega (arith, bound-right (c .before .before .before .before), c .before .before .before .head .kept .0)
 
 same-length : tie.Need-same-length
-same-length c = search needs
+same-length c = c .before .before .silence .kept .0 ∙ c .before .before .before .before .before .before .head .kept .0
 
 past : (c : tie.After-head-arg) (i : ℕ) → c .before .lesser .result ≤ i → i < length (now (c .before .before .before .before .args .out)) → c .before .before .before .before .args .n ≤ i
 past c i h g = lesser-past _ _ i (rw (c .before .lesser .ensures) at h) g

@@ -8,7 +8,7 @@ use lib.ListN.{length, getD, length-take, length-drop}
 use lib.Ieee.{Float, nan}
 use Rattle.lists.specs.Over.{over, upto}
 use Rattle.mix.specs.Mix.{tapOf, tailed}
-use Rattle.mix.proofs.Laws.{whole, lesser-left, lesser-right, lesser-past, reaches, part-upto}
+use Rattle.mix.proofs.Laws.{whole, lesser-left, lesser-right, lesser-past, start-asks, reaches, part-upto}
 use borrow.Author.Needs.{needs}
 use Rattle.mix.proofs.copy_ear.Statement.{statement}
 use Rattle.mix.proofs.copy_ear.Tie as tie
@@ -31,10 +31,13 @@ reach c =
     reaches (a .m) (a .r) (a .n) (a .number) (a .e) (c .before .lesser .result) (length (now (a .src))) (c .start .result) (c .start .ensures) (q .0) (q .1) (q .2) (bound-left c) (q .3)
 
 lesser-requires : tie.Need-lesser-requires
-lesser-requires c κs = search needs
+lesser-requires c κs = tt
 
 start-requires : tie.Need-start-requires
-start-requires c κs = search needs
+start-requires c κs =
+    let s = c .before .before .before in
+    let a = s .args in
+    start-asks (a .m) (a .r) (a .n) (a .number) (a .e) (s .pre .0) (s .pre .1) (s .pre .2)
 
 mul-copy : tie.Need-mul-copy
 mul-copy c = omega (arith, reach c)
@@ -55,7 +58,7 @@ silence-requires : tie.Need-silence-requires
 silence-requires c κs = omega (arith, bound-right (c .before .before .before .before .before .before), c .before .before .before .copy .kept .1 .0)
 
 same-length : tie.Need-same-length
-same-length c = search needs
+same-length c = c .before .before .silence .kept .0 ∙ c .before .before .before .before .before .before .copy .kept .1 .0
 
 returns : tie.Need-returns
 returns c =
