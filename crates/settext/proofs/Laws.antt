@@ -1,10 +1,11 @@
 -- Products of counts, and what the line of a key says of its number. Assumes nothing.
-use Prim.Native.Nat.{ℕ, _+_, _*_, _≤_, _<_}
+use Prim.Native.Nat.{ℕ, _+_, _-_, _*_, _≤_, _<_}
 use mathlib.Core.Path.{_≡_, ap, _∙_}
 use mathlib.Core.Bool.{Bool, true, false, cond}
 use mathlib.Core.List.{List}
 use native.Mathlib.Nat.{mul-le-mul}
 use native.Mathlib.Omega.{arith}
+use borrow.Author.Tests.{lt-ltb, le-ltb}
 use lib.Dec.{leb}
 use lib.ListN.{length, getD, drop, List·getD-eq-default}
 use lib.Ieee.{Float}
@@ -16,7 +17,7 @@ use Rattle.keys.specs.Keys.{behind}
 use Rattle.settext.specs.declared.State.{State}
 use Rattle.settext.specs.declared.Step.{Step}
 use Rattle.settext.specs.State.{badOf}
-use Rattle.settext.specs.Lines.{product, keys, keyLine, After}
+use Rattle.settext.specs.Lines.{product, keys, keyLine, queryLine, Lists, After, posLine, irLine, delayLine, plain, lineOf}
 
 pub product16 : (a b : ℕ) → a < 65536 → b < 65536 → a * b ≤ 4294836225
 product16 a b ha hb = mul-le-mul {n₁ = a} {m₁ = b} {n₂ = 65535} {m₂ = 65535} (omega arith) (omega arith)
@@ -48,8 +49,11 @@ pub past-keys : (s : State) (l : List ℕ) → 9 ≤ s .lines → keyLine s l �
 unfolding keyLine
 past-keys s l h = ap (λ (f : State → List ℕ → Step). f s l) (List·getD-eq-default keys (λ s l. badOf s) h)
 
+abbrev pub listed : List Float → List Float → List Float → Lists
+listed p r d = record { positions = p; responses = r; delays = d }
+
 abbrev pub made : Step → List Float → List Float → List Float → After
-made t p r d = record { step = t; lists = record { positions = p; responses = r; delays = d } }
+made t p r d = plain t (listed p r d)
 
 pub same : {t t′ : Step} {p p′ r r′ d d′ : List Float} → t ≡ t′ → p ≡ p′ → r ≡ r′ → d ≡ d′ → made t p r d ≡ made t′ p′ r′ d′
 same {t} {t′} {p} {p′} {r} {r′} {d} {d′} a b c e =
@@ -62,3 +66,27 @@ wanted s l k e = ap (λ (k : ℕ). getD keys k (λ s l. badOf s) s l) e
 
 pub up : {k : ℕ} (n : ℕ) → n ≤ k → (k ≡ n → ⊥) → n + 1 ≤ k
 up n h e = omega arith
+
+-- which line is wanted, by how many were read
+module _ (s : State) (l : List ℕ) (d : Lists) where
+  pub a-key : s .lines < 9 → lineOf s l d ≡ plain (keyLine s l) d
+  unfolding lineOf
+  a-key h = rw (lt-ltb _ _ h)
+
+  pub a-pos : 9 ≤ s .lines → s .lines - 9 < s .m → lineOf s l d ≡ posLine s l d (s .lines - 9)
+  unfolding lineOf
+  a-pos h i = rw (le-ltb _ _ h, lt-ltb _ _ i)
+
+  pub an-ir : 9 ≤ s .lines → s .m ≤ s .lines - 9 → s .lines - 9 - s .m < s .m * s .r → lineOf s l d ≡ irLine s l d (s .lines - 9 - s .m)
+  unfolding lineOf
+  an-ir h i j = rw (le-ltb _ _ h, le-ltb _ _ i, lt-ltb _ _ j)
+
+  pub a-delay : 9 ≤ s .lines → s .m ≤ s .lines - 9 → s .m * s .r ≤ s .lines - 9 - s .m → s .lines - 9 - s .m - s .m * s .r < s .delays
+      → lineOf s l d ≡ delayLine s l d (s .lines - 9 - s .m - s .m * s .r)
+  unfolding lineOf
+  a-delay h i j k = rw (le-ltb _ _ h, le-ltb _ _ i, le-ltb _ _ j, lt-ltb _ _ k)
+
+  pub a-query : 9 ≤ s .lines → s .m ≤ s .lines - 9 → s .m * s .r ≤ s .lines - 9 - s .m → s .delays ≤ s .lines - 9 - s .m - s .m * s .r
+      → lineOf s l d ≡ plain (queryLine s l) d
+  unfolding lineOf
+  a-query h i j k = rw (le-ltb _ _ h, le-ltb _ _ i, le-ltb _ _ j, le-ltb _ _ k)
