@@ -9,6 +9,8 @@ use borrow.Author.Tests.{lt-ltb, le-ltb}
 use lib.Dec.{leb}
 use lib.ListN.{length, getD, drop, List·getD-eq-default}
 use lib.Ieee.{Float}
+use mir.Syntax.{w16, w64}
+use mir.Val.{Fits}
 use Rattle.text.specs.declared.Num.{Num}
 use Rattle.text.specs.declared.Num.the-variants.{Is, Bad}
 use Rattle.text.specs.Number.{begins, countOf}
@@ -24,6 +26,16 @@ product16 a b ha hb = mul-le-mul {n₁ = a} {m₁ = b} {n₂ = 65535} {m₂ = 65
 
 pub product48 : (a b : ℕ) → a ≤ 4294836225 → b < 4294967296 → a * b < 18446744073709551616
 product48 a b ha hb = let h : a * b ≤ 4294836225 * 4294967295 = mul-le-mul {n₁ = a} {m₁ = b} {n₂ = 4294836225} {m₂ = 4294967295} ha (omega arith) in omega arith
+
+-- the place of a `pos` line, how many `ir` lines there are, and the place of one
+pub pos-fits : (i m : ℕ) → i < m → Fits w16 m → Fits w64 (3 * i)
+pos-fits i m h a = omega arith
+
+pub product-fits : (m r : ℕ) → Fits w16 m → Fits w16 r → Fits w64 (m * r)
+product-fits m r a b = omega (arith, product16 m r (omega arith) (omega arith))
+
+pub ir-fits : (j n m r : ℕ) → j < m * r → Fits w16 m → Fits w16 r → Fits w16 n → Fits w64 (j * n)
+ir-fits j n m r h a b d = let p = product16 m r (omega arith) (omega arith) in omega (arith, product48 j n (omega arith) (omega arith))
 
 -- a decimal behind a key is at most its limit
 pub behind-within : (key l : List ℕ) (k v : ℕ) → behind key (countOf k) l ≡ Is v → v ≤ k
