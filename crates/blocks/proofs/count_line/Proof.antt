@@ -49,7 +49,7 @@ part-put-decimal-start c =
     omega (arith, h)
 
 part-put-decimal-end : tie.Need-part-put-decimal-end
-part-put-decimal-end c = search needs
+part-put-decimal-end c = omega arith
 
 put-decimal-requires : tie.Need-put-decimal-requires
 unfolding countLine
