@@ -7,7 +7,6 @@ use lib.ListN.{length}
 use lib.Dec.{eqb, ltb}
 use denote.Ref.{now}
 use Rattle.settext.specs.Lines.{endOf}
-
 use Rattle.settext.proofs.at_end.Statement.{statement}
 use Rattle.settext.proofs.at_end.Tie as tie
 

@@ -2,7 +2,6 @@
 use mathlib.Core.Path.{refl, sym, _∙_}
 use Rattle.keys.specs.Words.{bytes}
 use Rattle.settext.specs.Lines.{formLine}
-
 use Rattle.settext.proofs.form_line.Statement.{statement}
 use Rattle.settext.proofs.form_line.Tie as tie
 

@@ -2,7 +2,6 @@
 use mathlib.Core.Path.{ap}
 use Rattle.settext.specs.declared.Step.the-variants.{Malformed}
 use Rattle.settext.specs.State.{badOf}
-
 use Rattle.settext.proofs.malformed.Statement.{statement}
 use Rattle.settext.proofs.malformed.Tie as tie
 

@@ -4,7 +4,6 @@ use mathlib.Core.Path.{sym, ap, _∙_}
 use borrow.Author.Tests.{eq-eqb, ne-eqb}
 use Rattle.settext.specs.declared.Step.the-variants.{Next, Complete}
 use Rattle.settext.specs.State.{wentOf, setLines}
-
 use Rattle.settext.proofs.went.Statement.{statement}
 use Rattle.settext.proofs.went.Tie as tie
 
