@@ -1,4 +1,5 @@
 -- `queries::by_step` meets its contract. Assumes nothing.
+use native.Mathlib.Nat.{le-trans}
 use native.Mathlib.Omega.{arith}
 use mathlib.Core.Path.{refl, subst}
 use denote.Ref.{now}
@@ -7,7 +8,7 @@ use Rattle.loads.specs.Load.{workOf}
 use Rattle.blocks.proofs.Rooms.{error-room}
 use Rattle.queries.specs.Program.{listsOf}
 use Rattle.queries.specs.Sound.{Few}
-use Rattle.queries.proofs.Turns.{fits, step-next, step-complete, step-query, step-bad}
+use Rattle.queries.proofs.Turns.{points-in, refusal-in, block-in, fits, step-next, step-complete, step-query, step-bad}
 use borrow.Author.Needs.{needs}
 use Rattle.queries.proofs.by_step.Statement.{statement}
 use Rattle.queries.proofs.by_step.Tie as tie
@@ -25,7 +26,7 @@ complete-requires : tie.Need-complete-requires
 complete-requires c κs =
     let s = c .before .before .before .before .before .before .before .before .before .before .before .before .before .before .before .before .before .before in
     let k : Reached (c .before .before .before .before .before .before .step2 .given .0 .0) = subst Few (c .before .before .before .before .before .before .step2 .given .1) (s .pre .0) in
-    (omega (arith, k .points, s .pre .1 .positions), omega (arith, s .pre .1 .out))
+    (points-in (k .points) (s .pre .1 .positions), refusal-in (s .pre .1 .out))
 
 enum-known-step-3 : tie.Need-enum-known-step-3
 enum-known-step-3 c = search needs
@@ -37,7 +38,7 @@ ask-requires : tie.Need-ask-requires
 ask-requires c κs =
     let s = c .before .before .before .before .before .before .before .before .before .before .before .before .before .before .before .before .before .before .before .before .before in
     let k : Reached (c .before .before .before .before .before .before .before .before .before .step3 .given .0 .0) = subst Few (c .before .before .before .before .before .before .before .before .before .step3 .given .1) (s .pre .0) in
-    (omega (arith, k .delays, s .pre .1 .delays), omega (arith, k .taps, s .pre .1 .left), omega (arith, k .taps, s .pre .1 .right), omega (arith, k .taps, s .pre .1 .out))
+    (le-trans (k .delays) (s .pre .1 .delays), le-trans (k .taps) (s .pre .1 .left), le-trans (k .taps) (s .pre .1 .right), block-in (k .taps) (s .pre .1 .out))
 
 enum-known-step-4 : tie.Need-enum-known-step-4
 enum-known-step-4 c = search needs

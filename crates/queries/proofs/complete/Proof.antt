@@ -10,7 +10,7 @@ use Rattle.queries.proofs.complete.Statement.{statement}
 use Rattle.queries.proofs.complete.Tie as tie
 
 load-requires : tie.Need-load-requires
-load-requires c κs = search needs
+load-requires c κs = c .before .before .before .before .before .before .before .before .before .before .before .pre .0
 
 enum-known-look : tie.Need-enum-known-look
 enum-known-look c = search needs

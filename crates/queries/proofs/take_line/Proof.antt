@@ -1,11 +1,9 @@
 -- `queries::take_line` meets its contract. Assumes nothing.
-use native.Mathlib.Omega.{arith}
 use mathlib.Core.Path.{_∙_}
 use denote.Ref.{now}
 use Rattle.loads.specs.Load.{workOf}
 use Rattle.queries.specs.Program.{listsOf}
-use Rattle.queries.proofs.Turns.{line-few, line-turn}
-use borrow.Author.Needs.{needs}
+use Rattle.queries.proofs.Turns.{of-kept, line-few, line-turn}
 use Rattle.queries.proofs.take_line.Statement.{statement}
 use Rattle.queries.proofs.take_line.Tie as tie
 
@@ -22,7 +20,7 @@ by-step-requires c κs =
     let d = listsOf (now (a .positions)) (now (a .responses)) (now (a .delays)) in
     let t = c .before .before .before .before .before .before .before .before .before .before .before .before .before .before .before .before .take-line in (
       line-few (a .f) d (now (a .line)) _ _ (t .ensures) (c .before .before .before .before .before .before .before .before .before .before .before .before .before .before .before .before .before .before .before .before .state-in .ensures) (s .pre .0),
-      record { positions = omega (arith, t .kept .1 .1 .0, s .pre .1 .positions); delays = omega (arith, t .kept .1 .1 .1 .1 .0, s .pre .1 .delays); left = s .pre .1 .left; right = s .pre .1 .right; out = s .pre .1 .out },
+      record { positions = of-kept (s .pre .1 .positions) (t .kept .1 .1 .0); delays = of-kept (s .pre .1 .delays) (t .kept .1 .1 .1 .1 .0); left = s .pre .1 .left; right = s .pre .1 .right; out = s .pre .1 .out },
     )
 
 same-length : tie.Need-same-length

@@ -10,7 +10,7 @@ use Rattle.queries.specs.Program.{Turn, session, listsOf}
 use Rattle.queries.specs.Sound.{SoundPhase}
 use Rattle.queries.specs.Machine.{between}
 use Rattle.queries.proofs.Keeps.{turn-sound}
-use Rattle.queries.proofs.Turns.{all-over, found-line, found-more, a-line, no-line}
+use Rattle.queries.proofs.Turns.{used-in, all-over, found-line, found-more, a-line, no-line}
 use borrow.Author.Needs.{needs}
 use Rattle.queries.proofs.turn.Statement.{statement}
 use Rattle.queries.proofs.turn.Tie as tie
@@ -34,7 +34,7 @@ returns c =
     }
 
 next-line-requires : tie.Need-next-line-requires
-next-line-requires c κs = search needs
+next-line-requires c κs = let p = c .before .before .before .before .before .before .before .before .before .before .before .before .before .before .before .pre in (p .0, used-in (p .1 .used) (p .2))
 
 enum-known-next : tie.Need-enum-known-next
 enum-known-next c = search needs
@@ -56,7 +56,7 @@ slice-aggregate-take-line c =
     sym (length-take-le (g .0 .1 .0) (n .last .1 .1 .0) (omega (arith, f .0, n .kept .1 .1 .0)))
 
 take-line-requires : tie.Need-take-line-requires
-take-line-requires c κs = search needs
+take-line-requires c κs = let p = c .before .before .before .before .before .before .before .before .before .before .before .before .before .before .before .before .before .before .before .before .before .before .before .before .before .before .before .before .before .before .before .before .pre in (p .1 .limits, p .3)
 
 enum-known-n : tie.Need-enum-known-n
 enum-known-n c = search needs
