@@ -7,7 +7,6 @@ use lib.ListN.{set, length-set}
 use denote.Ref.{now}
 use Rattle.blocks.specs.Blocks.{valueText}
 use Rattle.blocks.proofs.Into.{then, one}
-use borrow.Author.Needs.{needs}
 use Rattle.blocks.proofs.next_value.Statement.{statement}
 use Rattle.blocks.proofs.next_value.Tie as tie
 
