@@ -18,7 +18,8 @@ use Rattle.kdtree.specs.Tree.{Tree, node, linkOf, sideOf, subtree}
 use Rattle.kdtree.specs.Insert.{slotIn}
 use Rattle.kdtree.proofs.Step.{Said, said, said-gone, said-bad, said-to}
 use Rattle.kdtree.proofs.Nodes.{subtree-below, slot-below, OwnerBelow}
-use Rattle.lookup.specs.Build.{Links, linksOf, ownedBy, slotAt, ownedAt, linked, overBoth}
+use Rattle.lookup.specs.declared.Lookup.{Lookup}
+use Rattle.lookup.specs.Build.{Links, linksOf, ownedBy, slotAt, ownedAt, linked, overBoth, builtAs}
 
 -- ---- lists that agree below the count draw the same tree
 
@@ -159,3 +160,7 @@ module _ (xs : List Float) (n : ℕ) (a : Links) (some : 0 < n) (p : Point3) (ep
 
   pub below-right : (o : ℕ) → s ≡ Right o → o < n
   below-right o e = subst (OwnerBelow n) e below
+
+-- what is built, part by part
+pub built-as : {x y : Lookup} {a b : Links} → x ≡ y → a ≡ b → builtAs x a ≡ builtAs y b
+built-as {y = y} {a = a} e f = ap (λ (x : Lookup). builtAs x a) e ∙ ap (builtAs y) f

@@ -1,6 +1,6 @@
 -- What a turn comes to, by what the code was told of the chunk and of the line; and what stands at the front of a list that was written.
 -- Assumes nothing.
-use Prim.Native.Nat.{ℕ, _≤_, _<_}
+use Prim.Native.Nat.{ℕ, _+_, _*_, _≤_, _<_}
 use mathlib.Core.Path.{_≡_, sym, ap, subst, _∙_}
 use mathlib.Core.Bool.{true, false}
 use mathlib.Core.List.{List, []}
@@ -118,3 +118,20 @@ module _ (f : Phase) (d : Lists) (l : List ℕ) (a : After) (s : State) (told : 
   pub line-turn : (w : Work) → stepTurn f (a .step) (a .lists) w ≡ lineTurn (session f d w) l
   unfolding lineTurn
   line-turn w = ap (λ (a : After). afterTurn f a w) by-line
+
+-- ---- what a call asks of the lengths, by the limits
+
+pub of-kept : {k n m : ℕ} → k ≤ n → m ≡ n → k ≤ m
+of-kept h e = omega arith
+
+pub used-in : {u n : ℕ} → u ≤ 40000 → n ≡ 40000 → u ≤ n
+used-in h e = omega arith
+
+pub points-in : {m p : ℕ} → m ≤ 256 → 768 ≤ p → 3 * m ≤ p
+points-in h r = omega arith
+
+pub refusal-in : {o : ℕ} → 73848 ≤ o → 70 ≤ o
+refusal-in r = omega arith
+
+pub block-in : {n o : ℕ} → n ≤ 4096 → 73848 ≤ o → 18 * n + 120 ≤ o
+block-in h r = omega arith

@@ -20,7 +20,7 @@ same : {k k′ : ℕ} {o o′ : List ℕ} {l l′ r r′ : List Float} → k ≡
 same a b c d = cc
 
 nearest-requires : tie.Need-nearest-requires
-nearest-requires c κs = search needs
+nearest-requires c κs = tt
 
 ask-requires : tie.Need-ask-requires
 ask-requires c κs = search needs
@@ -34,13 +34,13 @@ block-requires c κs =
     omega (arith, block-room (f .result) (k .result) (f .last .1 .1 .1 .1 .1 .1 .1 .1 .1 .0) (f .last .1 .1 .1 .1 .1 .1 .1 .1 .1 .1 .0), f .kept .1 .1 .1 .1 .1 .1 .1 .1 .1 .0, f .kept .1 .1 .1 .1 .1 .1 .1 .1 .1 .1 .0, s .pre .1, s .pre .2, s .pre .3)
 
 same-length : tie.Need-same-length
-same-length c = search needs
+same-length c = c .before .before .before .before .before .before .before .before .before .before .ask .kept .1 .1 .1 .1 .1 .1 .1 .1 .1 .0
 
 same-length-2 : tie.Need-same-length-2
-same-length-2 c = search needs
+same-length-2 c = c .before .before .before .before .before .before .before .before .before .before .ask .kept .1 .1 .1 .1 .1 .1 .1 .1 .1 .1 .0
 
 same-length-3 : tie.Need-same-length-3
-same-length-3 c = search needs
+same-length-3 c = c .before .before .block .kept .1 .1 .1 .1 .0
 
 returns : tie.Need-returns
 unfolding answerOf answeredOf

@@ -15,7 +15,7 @@ cast-count : tie.Need-cast-count
 cast-count c = search needs
 
 sizes-of-requires : tie.Need-sizes-of-requires
-sizes-of-requires c κs = search needs
+sizes-of-requires c κs = tt
 
 slice-aggregate-filter : tie.Need-slice-aggregate-filter
 slice-aggregate-filter c =
@@ -26,10 +26,10 @@ filter-requires : tie.Need-filter-requires
 filter-requires c κs = search needs
 
 same-length : tie.Need-same-length
-same-length c = search needs
+same-length c = c .before .before .before .before .filter .kept .1 .1 .1 .1 .1 .1 .1 .1 .1 .1 .0
 
 same-length-2 : tie.Need-same-length-2
-same-length-2 c = search needs
+same-length-2 c = c .before .before .before .before .filter .kept .1 .1 .1 .1 .1 .1 .1 .1 .1 .1 .1 .0
 
 returns : tie.Need-returns
 unfolding filteredOf

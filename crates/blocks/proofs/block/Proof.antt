@@ -1,6 +1,6 @@
 -- `blocks::block` meets its contract. Assumes nothing.
 use Prim.Native.Nat.{ℕ}
-use mathlib.Core.Path.{subst, sym}
+use mathlib.Core.Path.{refl, subst, sym}
 use mathlib.Core.List.{List}
 use native.Mathlib.Omega.{arith}
 use denote.Ref.{now}
@@ -17,7 +17,7 @@ enum-known-outcome : tie.Need-enum-known-outcome
 enum-known-outcome c = search needs
 
 slice-aggregate-filter-block : tie.Need-slice-aggregate-filter-block
-slice-aggregate-filter-block c = search needs
+slice-aggregate-filter-block c = refl
 
 filter-block-requires : tie.Need-filter-block-requires
 unfolding bytes
@@ -34,7 +34,7 @@ enum-known-outcome-2 : tie.Need-enum-known-outcome-2
 enum-known-outcome-2 c = search needs
 
 slice-aggregate-filter-block-2 : tie.Need-slice-aggregate-filter-block-2
-slice-aggregate-filter-block-2 c = search needs
+slice-aggregate-filter-block-2 c = refl
 
 filter-block-requires-2 : tie.Need-filter-block-requires-2
 unfolding bytes
@@ -65,7 +65,7 @@ refused-block-requires c κs =
     subst (λ (o : Outcome). Room 0 (text o) d) (g .1) h
 
 same-length : tie.Need-same-length
-same-length c = search needs
+same-length c = c .before .before .filter-block .kept .1 .1 .1 .1 .1 .1 .1 .0
 
 returns : tie.Need-returns
 unfolding bytes
@@ -80,7 +80,7 @@ returns c =
     front (text (a .outcome)) d (p .result) (p .last .1 .1 .1 .1 .1 .1 .1 .0) w
 
 same-length-2 : tie.Need-same-length-2
-same-length-2 c = search needs
+same-length-2 c = c .before .before .filter-block2 .kept .1 .1 .1 .1 .1 .1 .1 .0
 
 returns-2 : tie.Need-returns-2
 unfolding bytes
@@ -95,7 +95,7 @@ returns-2 c =
     front (text (a .outcome)) d (p .result) (p .last .1 .1 .1 .1 .1 .1 .1 .0) w
 
 same-length-3 : tie.Need-same-length-3
-same-length-3 c = search needs
+same-length-3 c = c .before .before .refused-block .kept .1 .1 .0
 
 returns-3 : tie.Need-returns-3
 unfolding bytes

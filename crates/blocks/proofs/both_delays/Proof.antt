@@ -1,4 +1,5 @@
 -- `blocks::both_delays` meets its contract. Assumes nothing.
+use mathlib.Core.Path.{refl, _∙_}
 use Prim.Native.Nat.{ℕ}
 use mathlib.Core.List.{_++_}
 use denote.Ref.{now}
@@ -6,12 +7,11 @@ use Rattle.keys.specs.Words.{bytes}
 use Rattle.blocks.specs.Put.{Room}
 use Rattle.blocks.specs.Blocks.{valueLine, delaysText}
 use Rattle.blocks.proofs.Into.{then, room-left, room-right}
-use borrow.Author.Needs.{needs}
 use Rattle.blocks.proofs.both_delays.Statement.{statement}
 use Rattle.blocks.proofs.both_delays.Tie as tie
 
 slice-aggregate-value-line : tie.Need-slice-aggregate-value-line
-slice-aggregate-value-line c = search needs
+slice-aggregate-value-line c = refl
 
 value-line-requires : tie.Need-value-line-requires
 unfolding delaysText bytes
@@ -24,7 +24,7 @@ value-line-requires c κs =
     r1
 
 slice-aggregate-value-line-2 : tie.Need-slice-aggregate-value-line-2
-slice-aggregate-value-line-2 c = search needs
+slice-aggregate-value-line-2 c = refl
 
 value-line-requires-2 : tie.Need-value-line-requires-2
 unfolding delaysText bytes
@@ -40,7 +40,7 @@ value-line-requires-2 c κs =
     room-right at (p1 .result) (valueLine (bytes "ldelay=") (s .args .left .0)) (valueLine (bytes "rdelay=") (s .args .right .0)) d e1 r2 w1
 
 same-length : tie.Need-same-length
-same-length c = search needs
+same-length c = c .before .before .value-line2 .kept .1 .1 .0 ∙ c .before .before .before .before .before .before .before .value-line .kept .1 .1 .0
 
 returns : tie.Need-returns
 unfolding delaysText bytes

@@ -9,7 +9,6 @@ use Rattle.text.specs.Print.{decimalText}
 use Rattle.blocks.specs.Put.{Wrote}
 use Rattle.blocks.specs.Blocks.{newline, countLine}
 use Rattle.blocks.proofs.Into.{then, then-byte, room-left, room-right, kept, tail}
-use borrow.Author.Needs.{needs}
 use Rattle.blocks.proofs.count_line.Statement.{statement}
 use Rattle.blocks.proofs.count_line.Tie as tie
 
@@ -49,7 +48,7 @@ part-put-decimal-start c =
     omega (arith, h)
 
 part-put-decimal-end : tie.Need-part-put-decimal-end
-part-put-decimal-end c = search needs
+part-put-decimal-end c = omega arith
 
 put-decimal-requires : tie.Need-put-decimal-requires
 unfolding countLine

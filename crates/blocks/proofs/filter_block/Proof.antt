@@ -1,4 +1,5 @@
 -- `blocks::filter_block` meets its contract. Assumes nothing.
+use mathlib.Core.Path.{refl, _∙_}
 use Prim.Native.Nat.{ℕ}
 use mathlib.Core.List.{_++_}
 use denote.Ref.{now}
@@ -6,7 +7,6 @@ use Rattle.keys.specs.Words.{bytes}
 use Rattle.blocks.specs.Put.{Room}
 use Rattle.blocks.specs.Blocks.{valuesLine, headText, delaysText, filterText}
 use Rattle.blocks.proofs.Into.{then, room-left, room-right}
-use borrow.Author.Needs.{needs}
 use Rattle.blocks.proofs.filter_block.Statement.{statement}
 use Rattle.blocks.proofs.filter_block.Tie as tie
 
@@ -23,7 +23,7 @@ head-requires c κs =
     r1
 
 slice-aggregate-values-line : tie.Need-slice-aggregate-values-line
-slice-aggregate-values-line c = search needs
+slice-aggregate-values-line c = refl
 
 values-line-requires : tie.Need-values-line-requires
 unfolding filterText bytes
@@ -41,7 +41,7 @@ values-line-requires c κs =
     room-right at (p1 .result) (headText (now (s .args .answer)) (s .args .nearest) (s .args .points)) (valuesLine (bytes "left=") (now (s .args .left))) d e1 r2 w1
 
 slice-aggregate-values-line-2 : tie.Need-slice-aggregate-values-line-2
-slice-aggregate-values-line-2 c = search needs
+slice-aggregate-values-line-2 c = refl
 
 values-line-requires-2 : tie.Need-values-line-requires-2
 unfolding filterText bytes
@@ -83,7 +83,7 @@ both-delays-requires c κs =
     room-right at (p3 .result) (headText (now (s .args .answer)) (s .args .nearest) (s .args .points) ++ valuesLine (bytes "left=") (now (s .args .left)) ++ valuesLine (bytes "right=") (now (s .args .right))) (delaysText (s .args .ldelay) (s .args .rdelay)) d e3 r4 w3
 
 same-length : tie.Need-same-length
-same-length c = search needs
+same-length c = c .before .before .both-delays .kept .1 .1 .0 ∙ c .before .before .before .before .before .before .values-line2 .kept .1 .1 .0 ∙ c .before .before .before .before .before .before .before .before .before .before .before .values-line .kept .1 .1 .0 ∙ c .before .before .before .before .before .before .before .before .before .before .before .before .before .before .before .before .head .kept .1 .1 .1 .0
 
 returns : tie.Need-returns
 unfolding filterText bytes

@@ -1,15 +1,15 @@
 -- `blocks::form_error` meets its contract. Assumes nothing.
+use mathlib.Core.Path.{refl}
 use native.Mathlib.Omega.{arith}
 use denote.Ref.{now}
 use Rattle.keys.specs.Words.{bytes}
 use Rattle.blocks.specs.Blocks.{countLine, formError}
 use Rattle.blocks.proofs.Into.{front}
-use borrow.Author.Needs.{needs}
 use Rattle.blocks.proofs.form_error.Statement.{statement}
 use Rattle.blocks.proofs.form_error.Tie as tie
 
 slice-aggregate-count-line : tie.Need-slice-aggregate-count-line
-slice-aggregate-count-line c = search needs
+slice-aggregate-count-line c = refl
 
 count-line-requires : tie.Need-count-line-requires
 unfolding formError bytes
@@ -18,7 +18,7 @@ count-line-requires c κs =
     omega (arith, h)
 
 same-length : tie.Need-same-length
-same-length c = search needs
+same-length c = c .before .before .count-line .kept .1 .1 .0
 
 returns : tie.Need-returns
 unfolding formError bytes

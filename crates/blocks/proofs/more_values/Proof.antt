@@ -29,7 +29,7 @@ loop-holds c =
     (search needs, s .pre, search needs, nothing (s .args .at) xs d)
 
 mul-next-value : tie.Need-mul-next-value Inv-loop μ-loop
-mul-next-value c = search needs
+mul-next-value c = omega arith
 
 shared-slice-read-next-value : tie.Need-shared-slice-read-next-value Inv-loop μ-loop
 shared-slice-read-next-value c = search needs
@@ -43,10 +43,10 @@ next-value-requires c κs =
     room-right (s .args .at) (l .u) (afterOne (take (l .i) xs)) (44 ∷ valueText (getD xs (l .i) nan)) d (l .out) (room-next (s .args .at) (l .i) xs d nan (omega arith) (s .pre)) (l .inv .3)
 
 add-i : tie.Need-add-i Inv-loop μ-loop
-add-i c = search needs
+add-i c = omega arith
 
 loop-less : tie.Need-loop-less Inv-loop μ-loop
-loop-less c = search needs
+loop-less c = omega arith
 
 loop-again : tie.Need-loop-again Inv-loop μ-loop
 loop-again c =

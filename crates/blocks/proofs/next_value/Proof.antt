@@ -7,15 +7,14 @@ use lib.ListN.{set, length-set}
 use denote.Ref.{now}
 use Rattle.blocks.specs.Blocks.{valueText}
 use Rattle.blocks.proofs.Into.{then, one}
-use borrow.Author.Needs.{needs}
 use Rattle.blocks.proofs.next_value.Statement.{statement}
 use Rattle.blocks.proofs.next_value.Tie as tie
 
 slice-write-out : tie.Need-slice-write-out
-slice-write-out c = search needs
+slice-write-out c = omega arith
 
 add-put-value : tie.Need-add-put-value
-add-put-value c = search needs
+add-put-value c = omega arith
 
 put-value-requires : tie.Need-put-value-requires
 put-value-requires c κs = simp length-set (omega (arith, c .before .before .pre))

@@ -16,16 +16,16 @@ use Rattle.blocks.proofs.put_value.Statement.{statement}
 use Rattle.blocks.proofs.put_value.Tie as tie
 
 pattern-requires : tie.Need-pattern-requires
-pattern-requires c κs = search needs
+pattern-requires c κs = tt
 
 sub-put-hex : tie.Need-sub-put-hex
-sub-put-hex c = search needs
+sub-put-hex c = omega arith
 
 part-put-hex-start : tie.Need-part-put-hex-start
-part-put-hex-start c = search needs
+part-put-hex-start c = omega arith
 
 part-put-hex-end : tie.Need-part-put-hex-end
-part-put-hex-end c = search needs
+part-put-hex-end c = omega arith
 
 put-hex-requires : tie.Need-put-hex-requires
 put-hex-requires c κs =
@@ -33,7 +33,7 @@ put-hex-requires c κs =
     simp (length-take, length-drop) (omega (arith, s .pre, value-length (s .args .x)))
 
 add-result : tie.Need-add-result
-add-result c = search needs
+add-result c = omega arith
 
 same-length : tie.Need-same-length
 same-length c = search needs

@@ -39,13 +39,13 @@ put-value-requires c κs =
     room-left at first after d room
 
 sub-more-values : tie.Need-sub-more-values
-sub-more-values c = search needs
+sub-more-values c = omega arith
 
 part-more-values-start : tie.Need-part-more-values-start
-part-more-values-start c = search needs
+part-more-values-start c = omega arith
 
 part-more-values-end : tie.Need-part-more-values-end
-part-more-values-end c = search needs
+part-more-values-end c = omega arith
 
 more-values-requires : tie.Need-more-values-requires
 more-values-requires c κs =
@@ -61,7 +61,7 @@ more-values-requires c κs =
     room-right at (p .result) first after d (p .last .1 .0) room (p .ensures)
 
 same-length : tie.Need-same-length
-same-length c = search needs
+same-length c = c .before .before .more-values .kept .1 .0 ∙ c .before .before .before .before .before .before .before .put-value .kept .1 .0
 
 returns-2 : tie.Need-returns-2
 returns-2 c =

@@ -24,7 +24,7 @@ slice-write-out c =
     omega (arith, h)
 
 add-result : tie.Need-add-result
-add-result c = search needs
+add-result c = omega arith
 
 same-length : tie.Need-same-length
 same-length c = search needs

@@ -1,3 +1,4 @@
+use mathlib.Core.Path.{refl}
 use native.Mathlib.Omega.{arith}
 use denote.Ref.{now}
 use borrow.Author.Needs.{needs}
@@ -60,7 +61,7 @@ same-length : tie.Need-same-length
 same-length c = search needs
 
 same-length-2 : tie.Need-same-length-2
-same-length-2 c = search needs
+same-length-2 c = refl
 
 returns : tie.Need-returns
 unfolding ownedBy
@@ -69,7 +70,7 @@ returns c =
     links.placed (now (a .positions)) (a .n) (linksOf (now (a .left)) (now (a .right))) (c .before .before .before .before .before .before .before .before .before .before .pre .0) (c .before .before .before .before .before .before .point-at .result) (c .before .before .before .before .before .before .point-at .ensures) (c .before .before .before .insert-rec .result) (c .before .before .before .insert-rec .ensures) (Left (c .before .o .given .0 .0)) (c .before .o .given .1)
 
 same-length-3 : tie.Need-same-length-3
-same-length-3 c = search needs
+same-length-3 c = refl
 
 same-length-4 : tie.Need-same-length-4
 same-length-4 c = search needs
@@ -81,10 +82,10 @@ returns-2 c =
     links.placed (now (a .positions)) (a .n) (linksOf (now (a .left)) (now (a .right))) (c .before .before .before .before .before .before .before .before .before .before .pre .0) (c .before .before .before .before .before .before .point-at .result) (c .before .before .before .before .before .before .point-at .ensures) (c .before .before .before .insert-rec .result) (c .before .before .before .insert-rec .ensures) (Right (c .before .o2 .given .0 .0)) (c .before .o2 .given .1)
 
 same-length-5 : tie.Need-same-length-5
-same-length-5 c = search needs
+same-length-5 c = refl
 
 same-length-6 : tie.Need-same-length-6
-same-length-6 c = search needs
+same-length-6 c = refl
 
 returns-3 : tie.Need-returns-3
 unfolding ownedBy

@@ -5,6 +5,7 @@ use mathlib.Core.List.{List, []}
 use lib.ListN.{length}
 use lib.Seq.{length-take-le}
 use denote.Ref.{now}
+use mir.Facts.{fits-16-64}
 use Rattle.lists.specs.Over.{over}
 use Rattle.lists.proofs.Laws.{over-nil}
 use Rattle.loads.specs.Load.{workOf}
@@ -16,7 +17,7 @@ use Rattle.queries.proofs.ask.Statement.{statement}
 use Rattle.queries.proofs.ask.Tie as tie
 
 cast-n : tie.Need-cast-n
-cast-n c = search needs
+cast-n c = fits-16-64 (c .struct-known .given .1 .1 .1 .1 .0)
 
 enum-told : tie.Need-enum-told
 enum-told c = search needs
@@ -25,7 +26,7 @@ enum-known-f : tie.Need-enum-known-f
 enum-known-f c = search needs
 
 slice-relend-prefix-answer : tie.Need-slice-relend-prefix-answer
-slice-relend-prefix-answer c = search needs
+slice-relend-prefix-answer c = c .before .before .before .before .before .before .before .before .before .before .before .before .before .pre .1
 
 slice-aggregate-answer : tie.Need-slice-aggregate-answer
 slice-aggregate-answer c =
@@ -33,7 +34,7 @@ slice-aggregate-answer c =
     sym (length-take-le (s .args .s .n) (now (s .args .out-left)) (s .pre .1))
 
 slice-relend-prefix-answer-2 : tie.Need-slice-relend-prefix-answer-2
-slice-relend-prefix-answer-2 c = search needs
+slice-relend-prefix-answer-2 c = c .before .before .before .before .before .before .before .before .before .before .before .before .before .before .pre .2
 
 slice-aggregate-answer-2 : tie.Need-slice-aggregate-answer-2
 slice-aggregate-answer-2 c =

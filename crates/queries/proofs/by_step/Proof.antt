@@ -1,13 +1,14 @@
 -- `queries::by_step` meets its contract. Assumes nothing.
+use native.Mathlib.Nat.{le-trans}
 use native.Mathlib.Omega.{arith}
-use mathlib.Core.Path.{subst}
+use mathlib.Core.Path.{refl, subst}
 use denote.Ref.{now}
 use Rattle.setread.specs.Kept.{Reached}
 use Rattle.loads.specs.Load.{workOf}
 use Rattle.blocks.proofs.Rooms.{error-room}
 use Rattle.queries.specs.Program.{listsOf}
 use Rattle.queries.specs.Sound.{Few}
-use Rattle.queries.proofs.Turns.{fits, step-next, step-complete, step-query, step-bad}
+use Rattle.queries.proofs.Turns.{points-in, refusal-in, block-in, fits, step-next, step-complete, step-query, step-bad}
 use borrow.Author.Needs.{needs}
 use Rattle.queries.proofs.by_step.Statement.{statement}
 use Rattle.queries.proofs.by_step.Tie as tie
@@ -16,7 +17,7 @@ enum-known-step : tie.Need-enum-known-step
 enum-known-step c = search needs
 
 moved-to-requires : tie.Need-moved-to-requires
-moved-to-requires c κs = search needs
+moved-to-requires c κs = tt
 
 enum-known-step-2 : tie.Need-enum-known-step-2
 enum-known-step-2 c = search needs
@@ -25,19 +26,19 @@ complete-requires : tie.Need-complete-requires
 complete-requires c κs =
     let s = c .before .before .before .before .before .before .before .before .before .before .before .before .before .before .before .before .before .before in
     let k : Reached (c .before .before .before .before .before .before .step2 .given .0 .0) = subst Few (c .before .before .before .before .before .before .step2 .given .1) (s .pre .0) in
-    (omega (arith, k .points, s .pre .1 .positions), omega (arith, s .pre .1 .out))
+    (points-in (k .points) (s .pre .1 .positions), refusal-in (s .pre .1 .out))
 
 enum-known-step-3 : tie.Need-enum-known-step-3
 enum-known-step-3 c = search needs
 
 moved-to-requires-2 : tie.Need-moved-to-requires-2
-moved-to-requires-2 c κs = search needs
+moved-to-requires-2 c κs = tt
 
 ask-requires : tie.Need-ask-requires
 ask-requires c κs =
     let s = c .before .before .before .before .before .before .before .before .before .before .before .before .before .before .before .before .before .before .before .before .before in
     let k : Reached (c .before .before .before .before .before .before .before .before .before .step3 .given .0 .0) = subst Few (c .before .before .before .before .before .before .before .before .before .step3 .given .1) (s .pre .0) in
-    (omega (arith, k .delays, s .pre .1 .delays), omega (arith, k .taps, s .pre .1 .left), omega (arith, k .taps, s .pre .1 .right), omega (arith, k .taps, s .pre .1 .out))
+    (le-trans (k .delays) (s .pre .1 .delays), le-trans (k .taps) (s .pre .1 .left), le-trans (k .taps) (s .pre .1 .right), block-in (k .taps) (s .pre .1 .out))
 
 enum-known-step-4 : tie.Need-enum-known-step-4
 enum-known-step-4 c = search needs
@@ -53,19 +54,19 @@ returns c =
     record { same = step-next (a .f) d w (a .step) _ _ (c .moved-to .ensures) (c .before .before .step .given .1); count = omega arith }
 
 same-length : tie.Need-same-length
-same-length c = search needs
+same-length c = c .before .before .before .before .before .before .before .before .before .before .complete .kept .1 .1 .1 .0
 
 same-length-2 : tie.Need-same-length-2
-same-length-2 c = search needs
+same-length-2 c = c .before .before .before .before .before .before .before .before .before .before .complete .kept .1 .1 .1 .1 .0
 
 same-length-3 : tie.Need-same-length-3
-same-length-3 c = search needs
+same-length-3 c = c .before .before .before .before .before .before .before .before .before .before .complete .kept .1 .1 .1 .1 .1 .0
 
 same-length-4 : tie.Need-same-length-4
-same-length-4 c = search needs
+same-length-4 c = c .before .before .before .before .before .before .before .before .before .before .complete .kept .1 .1 .1 .1 .1 .1 .0
 
 same-length-5 : tie.Need-same-length-5
-same-length-5 c = search needs
+same-length-5 c = c .before .before .before .before .before .before .before .before .before .before .complete .kept .1 .1 .1 .1 .1 .1 .1 .0
 
 returns-2 : tie.Need-returns-2
 returns-2 c =
@@ -76,25 +77,25 @@ returns-2 c =
     record { same = step-complete (a .f) d w (a .step) _ _ (r .same d) (c .before .before .before .before .before .before .before .before .before .before .before .before .before .before .before .before .before .step2 .given .1); count = r .count }
 
 same-length-6 : tie.Need-same-length-6
-same-length-6 c = search needs
+same-length-6 c = refl
 
 same-length-7 : tie.Need-same-length-7
-same-length-7 c = search needs
+same-length-7 c = refl
 
 same-length-8 : tie.Need-same-length-8
-same-length-8 c = search needs
+same-length-8 c = refl
 
 same-length-9 : tie.Need-same-length-9
-same-length-9 c = search needs
+same-length-9 c = refl
 
 same-length-10 : tie.Need-same-length-10
-same-length-10 c = search needs
+same-length-10 c = c .before .before .before .before .before .before .ask .kept .1 .1 .1 .1 .1 .1 .1 .1 .1 .0
 
 same-length-11 : tie.Need-same-length-11
-same-length-11 c = search needs
+same-length-11 c = c .before .before .before .before .before .before .ask .kept .1 .1 .1 .1 .1 .1 .1 .1 .1 .1 .0
 
 same-length-12 : tie.Need-same-length-12
-same-length-12 c = search needs
+same-length-12 c = c .before .before .before .before .before .before .ask .kept .1 .1 .1 .1 .1 .1 .1 .1 .1 .1 .1 .0
 
 returns-3 : tie.Need-returns-3
 returns-3 c =
@@ -105,7 +106,7 @@ returns-3 c =
     record { same = step-query (a .f) d w (a .step) _ _ _ _ _ _ (c .before .before .before .before .before .before .before .before .before .before .before .before .before .before .moved-to2 .ensures) (c .before .before .before .before .before .before .before .before .before .before .before .before .before .before .before .before .step3 .given .1) (r .0) (r .1); count = fits _ _ _ _ (r .0) (r .1) }
 
 same-length-13 : tie.Need-same-length-13
-same-length-13 c = search needs
+same-length-13 c = c .before .before .form-error .kept .1 .0
 
 returns-4 : tie.Need-returns-4
 returns-4 c =

@@ -20,7 +20,7 @@ slice-aggregate-end c =
     sym (length-take-le (s .args .t .used) (now (s .args .buf)) (s .pre .0))
 
 end-requires : tie.Need-end-requires
-end-requires c κs = search needs
+end-requires c κs = c .before .before .before .before .before .before .before .pre .1
 
 enum-known-f-2 : tie.Need-enum-known-f-2
 enum-known-f-2 c = search needs
@@ -31,7 +31,7 @@ slice-aggregate-end-2 c =
     sym (length-take-le (s .args .t .used) (now (s .args .buf)) (s .pre .0))
 
 end-requires-2 : tie.Need-end-requires-2
-end-requires-2 c κs = search needs
+end-requires-2 c κs = c .before .before .before .before .before .before .before .pre .1
 
 enum-told : tie.Need-enum-told
 enum-told c = search needs

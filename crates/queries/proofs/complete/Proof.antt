@@ -10,7 +10,7 @@ use Rattle.queries.proofs.complete.Statement.{statement}
 use Rattle.queries.proofs.complete.Tie as tie
 
 load-requires : tie.Need-load-requires
-load-requires c κs = search needs
+load-requires c κs = c .before .before .before .before .before .before .before .before .before .before .before .pre .0
 
 enum-known-look : tie.Need-enum-known-look
 enum-known-look c = search needs
@@ -27,16 +27,16 @@ refused-block-requires c κs =
     omega (arith, refused-room (g .0) (g .1 .0), c .before .before .before .before .before .before .before .before .before .before .before .before .before .before .before .before .before .before .before .before .before .before .before .before .pre .1)
 
 same-length : tie.Need-same-length
-same-length c = search needs
+same-length c = c .before .before .before .before .before .before .before .before .before .before .before .load .kept .1 .1 .1 .0
 
 same-length-2 : tie.Need-same-length-2
-same-length-2 c = search needs
+same-length-2 c = c .before .before .before .before .before .before .before .before .before .before .before .load .kept .1 .1 .1 .1 .0
 
 same-length-3 : tie.Need-same-length-3
-same-length-3 c = search needs
+same-length-3 c = c .before .before .before .before .before .before .before .before .before .before .before .load .kept .1 .1 .1 .1 .1 .0
 
 same-length-4 : tie.Need-same-length-4
-same-length-4 c = search needs
+same-length-4 c = c .before .before .before .before .before .before .before .before .before .before .before .load .kept .1 .1 .1 .1 .1 .1 .0
 
 returns : tie.Need-returns
 returns c = record {
@@ -45,19 +45,19 @@ returns c = record {
 }
 
 same-length-5 : tie.Need-same-length-5
-same-length-5 c = search needs
+same-length-5 c = c .before .before .before .before .before .before .before .before .before .before .before .before .before .before .before .load .kept .1 .1 .1 .0
 
 same-length-6 : tie.Need-same-length-6
-same-length-6 c = search needs
+same-length-6 c = c .before .before .before .before .before .before .before .before .before .before .before .before .before .before .before .load .kept .1 .1 .1 .1 .0
 
 same-length-7 : tie.Need-same-length-7
-same-length-7 c = search needs
+same-length-7 c = c .before .before .before .before .before .before .before .before .before .before .before .before .before .before .before .load .kept .1 .1 .1 .1 .1 .0
 
 same-length-8 : tie.Need-same-length-8
-same-length-8 c = search needs
+same-length-8 c = c .before .before .before .before .before .before .before .before .before .before .before .before .before .before .before .load .kept .1 .1 .1 .1 .1 .1 .0
 
 same-length-9 : tie.Need-same-length-9
-same-length-9 c = search needs
+same-length-9 c = c .before .before .refused-block .kept .1 .1 .0
 
 returns-2 : tie.Need-returns-2
 unfolding into

@@ -1,19 +1,17 @@
 -- `queries::take_line` meets its contract. Assumes nothing.
-use native.Mathlib.Omega.{arith}
 use mathlib.Core.Path.{_∙_}
 use denote.Ref.{now}
 use Rattle.loads.specs.Load.{workOf}
 use Rattle.queries.specs.Program.{listsOf}
-use Rattle.queries.proofs.Turns.{line-few, line-turn}
-use borrow.Author.Needs.{needs}
+use Rattle.queries.proofs.Turns.{of-kept, line-few, line-turn}
 use Rattle.queries.proofs.take_line.Statement.{statement}
 use Rattle.queries.proofs.take_line.Tie as tie
 
 state-in-requires : tie.Need-state-in-requires
-state-in-requires c κs = search needs
+state-in-requires c κs = tt
 
 take-line-requires : tie.Need-take-line-requires
-take-line-requires c κs = search needs
+take-line-requires c κs = tt
 
 by-step-requires : tie.Need-by-step-requires
 by-step-requires c κs =
@@ -22,38 +20,38 @@ by-step-requires c κs =
     let d = listsOf (now (a .positions)) (now (a .responses)) (now (a .delays)) in
     let t = c .before .before .before .before .before .before .before .before .before .before .before .before .before .before .before .before .take-line in (
       line-few (a .f) d (now (a .line)) _ _ (t .ensures) (c .before .before .before .before .before .before .before .before .before .before .before .before .before .before .before .before .before .before .before .before .state-in .ensures) (s .pre .0),
-      record { positions = omega (arith, t .kept .1 .1 .0, s .pre .1 .positions); delays = omega (arith, t .kept .1 .1 .1 .1 .0, s .pre .1 .delays); left = s .pre .1 .left; right = s .pre .1 .right; out = s .pre .1 .out },
+      record { positions = of-kept (s .pre .1 .positions) (t .kept .1 .1 .0); delays = of-kept (s .pre .1 .delays) (t .kept .1 .1 .1 .1 .0); left = s .pre .1 .left; right = s .pre .1 .right; out = s .pre .1 .out },
     )
 
 same-length : tie.Need-same-length
-same-length c = search needs
+same-length c = c .before .before .before .before .before .before .before .before .before .before .before .before .before .before .before .before .before .before .before .before .before .before .before .before .before .before .before .before .before .before .before .take-line .kept .1 .1 .0
 
 same-length-2 : tie.Need-same-length-2
-same-length-2 c = search needs
+same-length-2 c = c .before .before .before .before .before .before .before .before .before .before .before .before .before .before .before .before .before .before .before .before .before .before .before .before .before .before .before .before .before .before .before .take-line .kept .1 .1 .1 .0
 
 same-length-3 : tie.Need-same-length-3
-same-length-3 c = search needs
+same-length-3 c = c .before .before .before .before .before .before .before .before .before .before .before .before .before .before .before .before .before .before .before .before .before .before .before .before .before .before .before .before .before .before .before .take-line .kept .1 .1 .1 .1 .0
 
 same-length-4 : tie.Need-same-length-4
-same-length-4 c = search needs
+same-length-4 c = c .before .before .before .before .before .before .before .before .before .before .before .before .before .before .by-step .kept .1 .1 .1 .1 .1 .0
 
 same-length-5 : tie.Need-same-length-5
-same-length-5 c = search needs
+same-length-5 c = c .before .before .before .before .before .before .before .before .before .before .before .before .before .before .by-step .kept .1 .1 .1 .1 .1 .1 .0
 
 same-length-6 : tie.Need-same-length-6
-same-length-6 c = search needs
+same-length-6 c = c .before .before .before .before .before .before .before .before .before .before .before .before .before .before .by-step .kept .1 .1 .1 .1 .1 .1 .1 .0
 
 same-length-7 : tie.Need-same-length-7
-same-length-7 c = search needs
+same-length-7 c = c .before .before .before .before .before .before .before .before .before .before .before .before .before .before .by-step .kept .1 .1 .1 .1 .1 .1 .1 .1 .0
 
 same-length-8 : tie.Need-same-length-8
-same-length-8 c = search needs
+same-length-8 c = c .before .before .before .before .before .before .before .before .before .before .before .before .before .before .by-step .kept .1 .1 .1 .1 .1 .1 .1 .1 .1 .0
 
 same-length-9 : tie.Need-same-length-9
-same-length-9 c = search needs
+same-length-9 c = c .before .before .before .before .before .before .before .before .before .before .before .before .before .before .by-step .kept .1 .1 .1 .1 .1 .1 .1 .1 .1 .1 .0
 
 same-length-10 : tie.Need-same-length-10
-same-length-10 c = search needs
+same-length-10 c = c .before .before .before .before .before .before .before .before .before .before .before .before .before .before .by-step .kept .1 .1 .1 .1 .1 .1 .1 .1 .1 .1 .1 .0
 
 returns : tie.Need-returns
 returns c =

@@ -7,15 +7,14 @@ use lib.ListN.{length}
 use lib.Dec.{eqb, ltb}
 use denote.Ref.{now}
 use Rattle.settext.specs.Lines.{endOf}
-use borrow.Author.Needs.{needs}
 use Rattle.settext.proofs.at_end.Statement.{statement}
 use Rattle.settext.proofs.at_end.Tie as tie
 
 total-requires : tie.Need-total-requires
-total-requires c κs = search needs
+total-requires c κs = tt
 
 number-requires : tie.Need-number-requires
-number-requires c κs = search needs
+number-requires c κs = tt
 
 returns : tie.Need-returns
 unfolding endOf

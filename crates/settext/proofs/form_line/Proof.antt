@@ -1,26 +1,25 @@
 -- `settext::form_line` meets its contract. Assumes nothing.
-use mathlib.Core.Path.{sym, _∙_}
+use mathlib.Core.Path.{refl, sym, _∙_}
 use Rattle.keys.specs.Words.{bytes}
 use Rattle.settext.specs.Lines.{formLine}
-use borrow.Author.Needs.{needs}
 use Rattle.settext.proofs.form_line.Statement.{statement}
 use Rattle.settext.proofs.form_line.Tie as tie
 
 slice-aggregate-exactly : tie.Need-slice-aggregate-exactly
-slice-aggregate-exactly c = search needs
+slice-aggregate-exactly c = refl
 
 exactly-requires : tie.Need-exactly-requires
-exactly-requires c κs = search needs
+exactly-requires c κs = tt
 
 went-requires : tie.Need-went-requires
-went-requires c κs = search needs
+went-requires c κs = tt
 
 returns : tie.Need-returns
 unfolding formLine bytes
 returns c = rw (sym (c .before .before .exactly .ensures) ∙ c .before .if1 .taken) (c .went .ensures)
 
 malformed-requires : tie.Need-malformed-requires
-malformed-requires c κs = search needs
+malformed-requires c κs = tt
 
 returns-2 : tie.Need-returns-2
 unfolding formLine bytes

@@ -3,39 +3,39 @@ use Prim.Native.Nat.{_≤_}
 use mathlib.Core.Path.{sym, _∙_}
 use denote.Ref.{now}
 use Rattle.settext.proofs.Laws.{past-keys, wanted, up}
-use borrow.Author.Needs.{needs, zero≤}
+use borrow.Author.Needs.{zero≤}
 use Rattle.settext.proofs.key_line.Statement.{statement}
 use Rattle.settext.proofs.key_line.Tie as tie
 
 form-line-requires : tie.Need-form-line-requires
-form-line-requires c κs = search needs
+form-line-requires c κs = tt
 
 kind-line-requires : tie.Need-kind-line-requires
-kind-line-requires c κs = search needs
+kind-line-requires c κs = tt
 
 m-line-requires : tie.Need-m-line-requires
-m-line-requires c κs = search needs
+m-line-requires c κs = tt
 
 r-line-requires : tie.Need-r-line-requires
-r-line-requires c κs = search needs
+r-line-requires c κs = tt
 
 n-line-requires : tie.Need-n-line-requires
-n-line-requires c κs = search needs
+n-line-requires c κs = tt
 
 rate-line-requires : tie.Need-rate-line-requires
-rate-line-requires c κs = search needs
+rate-line-requires c κs = tt
 
 astep-line-requires : tie.Need-astep-line-requires
-astep-line-requires c κs = search needs
+astep-line-requires c κs = tt
 
 rstep-line-requires : tie.Need-rstep-line-requires
-rstep-line-requires c κs = search needs
+rstep-line-requires c κs = tt
 
 delays-line-requires : tie.Need-delays-line-requires
-delays-line-requires c κs = search needs
+delays-line-requires c κs = tt
 
 malformed-requires : tie.Need-malformed-requires
-malformed-requires c κs = search needs
+malformed-requires c κs = tt
 
 returns : tie.Need-returns
 returns c =

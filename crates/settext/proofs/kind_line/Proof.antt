@@ -1,6 +1,6 @@
 -- `settext::kind_line` meets its contract. Assumes nothing.
 use Prim.Native.Nat.{ℕ}
-use mathlib.Core.Path.{sym, ap, _∙_}
+use mathlib.Core.Path.{refl, sym, ap, _∙_}
 use denote.Ref.{now}
 use Rattle.keys.specs.Words.{bytes}
 use Rattle.settext.specs.State.{wentOf, setKind}
@@ -12,10 +12,10 @@ use Rattle.settext.proofs.kind_line.Statement.{statement}
 use Rattle.settext.proofs.kind_line.Tie as tie
 
 slice-aggregate-begins-with : tie.Need-slice-aggregate-begins-with
-slice-aggregate-begins-with c = search needs
+slice-aggregate-begins-with c = refl
 
 begins-with-requires : tie.Need-begins-with-requires
-begins-with-requires c κs = search needs
+begins-with-requires c κs = tt
 
 sub-kind-of : tie.Need-sub-kind-of
 unfolding bytes
@@ -29,10 +29,10 @@ part-kind-of-end : tie.Need-part-kind-of-end
 part-kind-of-end c = search needs
 
 kind-of-requires : tie.Need-kind-of-requires
-kind-of-requires c κs = search needs
+kind-of-requires c κs = tt
 
 went-requires : tie.Need-went-requires
-went-requires c κs = search needs
+went-requires c κs = tt
 
 returns : tie.Need-returns
 unfolding kindLine bytes
@@ -41,7 +41,7 @@ returns c =
     rw (sym (c .before .before .before .before .begins-with .ensures) ∙ c .before .before .before .if1 .taken) (c .went .ensures ∙ ap (λ (k : ℕ). wentOf (setKind (a .s) k)) (c .before .kind-of .ensures ∙ ap kindOf (tail 5 (now (a .line)))))
 
 malformed-requires : tie.Need-malformed-requires
-malformed-requires c κs = search needs
+malformed-requires c κs = tt
 
 returns-2 : tie.Need-returns-2
 unfolding kindLine bytes

@@ -1,26 +1,25 @@
 -- `settext::kind_of` meets its contract. Assumes nothing.
-use mathlib.Core.Path.{sym, _∙_}
+use mathlib.Core.Path.{refl, sym, _∙_}
 use Rattle.keys.specs.Words.{bytes}
 use Rattle.settext.specs.Lines.{kindOf}
-use borrow.Author.Needs.{needs}
 use Rattle.settext.proofs.kind_of.Statement.{statement}
 use Rattle.settext.proofs.kind_of.Tie as tie
 
 slice-aggregate-exactly : tie.Need-slice-aggregate-exactly
-slice-aggregate-exactly c = search needs
+slice-aggregate-exactly c = refl
 
 exactly-requires : tie.Need-exactly-requires
-exactly-requires c κs = search needs
+exactly-requires c κs = tt
 
 returns : tie.Need-returns
 unfolding kindOf bytes
 returns c = rw (sym (c .before .exactly .ensures) ∙ c .if1 .taken)
 
 slice-aggregate-exactly-2 : tie.Need-slice-aggregate-exactly-2
-slice-aggregate-exactly-2 c = search needs
+slice-aggregate-exactly-2 c = refl
 
 exactly-requires-2 : tie.Need-exactly-requires-2
-exactly-requires-2 c κs = search needs
+exactly-requires-2 c κs = tt
 
 returns-2 : tie.Need-returns-2
 unfolding kindOf bytes

@@ -2,12 +2,11 @@
 use mathlib.Core.Path.{ap}
 use Rattle.settext.specs.declared.Step.the-variants.{Malformed}
 use Rattle.settext.specs.State.{badOf}
-use borrow.Author.Needs.{needs}
 use Rattle.settext.proofs.malformed.Statement.{statement}
 use Rattle.settext.proofs.malformed.Tie as tie
 
 number-requires : tie.Need-number-requires
-number-requires c κs = search needs
+number-requires c κs = tt
 
 returns : tie.Need-returns
 unfolding badOf

@@ -1,6 +1,6 @@
 -- `settext::query_line` meets its contract. Assumes nothing.
 use Prim.Native.Nat.{ℕ}
-use mathlib.Core.Path.{sym, ap, _∙_}
+use mathlib.Core.Path.{refl, sym, ap, _∙_}
 use Rattle.keys.specs.Words.{bytes}
 use Rattle.settext.specs.declared.Step.the-variants.{Query}
 use Rattle.settext.specs.State.{setLines}
@@ -10,10 +10,10 @@ use Rattle.settext.proofs.query_line.Statement.{statement}
 use Rattle.settext.proofs.query_line.Tie as tie
 
 slice-aggregate-point-behind : tie.Need-slice-aggregate-point-behind
-slice-aggregate-point-behind c = search needs
+slice-aggregate-point-behind c = refl
 
 point-behind-requires : tie.Need-point-behind-requires
-point-behind-requires c κs = search needs
+point-behind-requires c κs = tt
 
 enum-known-q : tie.Need-enum-known-q
 enum-known-q c = search needs
@@ -22,7 +22,7 @@ enum-told : tie.Need-enum-told
 enum-told c = search needs
 
 malformed-requires : tie.Need-malformed-requires
-malformed-requires c κs = search needs
+malformed-requires c κs = tt
 
 returns : tie.Need-returns
 unfolding queryLine bytes
@@ -31,7 +31,7 @@ returns c =
     c .malformed .ensures ∙ sym (ap (asked s) (sym (c .before .before .before .point-behind .ensures) ∙ c .before .enum-told .given .1))
 
 number-requires : tie.Need-number-requires
-number-requires c κs = search needs
+number-requires c κs = tt
 
 returns-2 : tie.Need-returns-2
 unfolding queryLine bytes

@@ -1,5 +1,5 @@
 -- `settext::rate_line` meets its contract. Assumes nothing.
-use mathlib.Core.Path.{sym, ap, _∙_}
+use mathlib.Core.Path.{refl, sym, ap, _∙_}
 use lib.Ieee.{Float}
 use Rattle.text.specs.Values.{valueOf}
 use Rattle.keys.specs.Words.{bytes}
@@ -10,10 +10,10 @@ use Rattle.settext.proofs.rate_line.Statement.{statement}
 use Rattle.settext.proofs.rate_line.Tie as tie
 
 slice-aggregate-hex-behind : tie.Need-slice-aggregate-hex-behind
-slice-aggregate-hex-behind c = search needs
+slice-aggregate-hex-behind c = refl
 
 hex-behind-requires : tie.Need-hex-behind-requires
-hex-behind-requires c κs = search needs
+hex-behind-requires c κs = tt
 
 enum-known-v : tie.Need-enum-known-v
 enum-known-v c = search needs
@@ -22,7 +22,7 @@ enum-told : tie.Need-enum-told
 enum-told c = search needs
 
 malformed-requires : tie.Need-malformed-requires
-malformed-requires c κs = search needs
+malformed-requires c κs = tt
 
 returns : tie.Need-returns
 unfolding rateLine bytes
@@ -31,10 +31,10 @@ returns c =
     c .malformed .ensures ∙ sym (ap (gives s (λ v. setRate s (valueOf v))) (sym (c .before .before .before .hex-behind .ensures) ∙ c .before .enum-told .given .1))
 
 value-requires : tie.Need-value-requires
-value-requires c κs = search needs
+value-requires c κs = tt
 
 went-requires : tie.Need-went-requires
-went-requires c κs = search needs
+went-requires c κs = tt
 
 returns-2 : tie.Need-returns-2
 unfolding rateLine bytes

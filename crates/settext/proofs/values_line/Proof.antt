@@ -10,10 +10,10 @@ use Rattle.settext.proofs.values_line.Statement.{statement}
 use Rattle.settext.proofs.values_line.Tie as tie
 
 values-behind-requires : tie.Need-values-behind-requires
-values-behind-requires c κs = search needs
+values-behind-requires c κs = tt
 
 went-requires : tie.Need-went-requires
-went-requires c κs = search needs
+went-requires c κs = tt
 
 same-length : tie.Need-same-length
 same-length c = search needs
@@ -29,7 +29,7 @@ returns c =
     )
 
 malformed-requires : tie.Need-malformed-requires
-malformed-requires c κs = search needs
+malformed-requires c κs = tt
 
 same-length-2 : tie.Need-same-length-2
 same-length-2 c = search needs

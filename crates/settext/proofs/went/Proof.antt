@@ -4,15 +4,14 @@ use mathlib.Core.Path.{sym, ap, _∙_}
 use borrow.Author.Tests.{eq-eqb, ne-eqb}
 use Rattle.settext.specs.declared.Step.the-variants.{Next, Complete}
 use Rattle.settext.specs.State.{wentOf, setLines}
-use borrow.Author.Needs.{needs}
 use Rattle.settext.proofs.went.Statement.{statement}
 use Rattle.settext.proofs.went.Tie as tie
 
 number-requires : tie.Need-number-requires
-number-requires c κs = search needs
+number-requires c κs = tt
 
 total-requires : tie.Need-total-requires
-total-requires c κs = search needs
+total-requires c κs = tt
 
 returns : tie.Need-returns
 unfolding wentOf

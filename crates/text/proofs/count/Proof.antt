@@ -17,7 +17,7 @@ unfolding countOf pick
 returns-2 c = simp (ne-eqb _ 0 (c .before .before .if1 .left), c .if2 .taken)
 
 digits-requires : tie.Need-digits-requires
-digits-requires c κs = search needs
+digits-requires c κs = tt
 
 returns-3 : tie.Need-returns-3
 unfolding countOf pick

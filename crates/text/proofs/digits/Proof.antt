@@ -32,7 +32,7 @@ shared-slice-read-digit : tie.Need-shared-slice-read-digit Inv-loop μ-loop
 shared-slice-read-digit c = search needs
 
 digit-requires : tie.Need-digit-requires Inv-loop μ-loop
-digit-requires c κs = search needs
+digit-requires c κs = tt
 
 returns : tie.Need-returns Inv-loop μ-loop
 unfolding atMost
@@ -42,10 +42,10 @@ returns c =
     sym (ap (atMost (a .limit)) (num-bad 10 (l .loop .v) (l .loop .i) (now (a .s)) (omega arith) (omega (arith, c .before .digit .ensures)))) ∙ l .loop .inv .3
 
 mul-w : tie.Need-mul-w Inv-loop μ-loop
-mul-w c = search needs
+mul-w c = omega arith
 
 add-w : tie.Need-add-w Inv-loop μ-loop
-add-w c = search needs
+add-w c = omega arith
 
 returns-2 : tie.Need-returns-2 Inv-loop μ-loop
 returns-2 c =
@@ -55,10 +55,10 @@ returns-2 c =
     sym (goes (c .before) ∙ too-many (a .limit) w (drop (l .loop .i + 1) (now (a .s))) (omega arith)) ∙ l .loop .inv .3
 
 add-i : tie.Need-add-i Inv-loop μ-loop
-add-i c = search needs
+add-i c = omega arith
 
 loop-less : tie.Need-loop-less Inv-loop μ-loop
-loop-less c = search needs
+loop-less c = omega arith
 
 loop-again : tie.Need-loop-again Inv-loop μ-loop
 loop-again c =

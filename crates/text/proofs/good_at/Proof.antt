@@ -1,4 +1,5 @@
 -- `text::good_at` meets its contract. Assumes nothing.
+use native.Mathlib.Omega.{arith}
 use mathlib.Core.Path.{sym}
 use denote.Ref.{now}
 use Rattle.text.proofs.Reading.{eight, good-bad, good-last, good-on}
@@ -7,22 +8,22 @@ use Rattle.text.proofs.good_at.Statement.{statement}
 use Rattle.text.proofs.good_at.Tie as tie
 
 mul-a : tie.Need-mul-a
-mul-a c = search needs
+mul-a c = omega arith
 
 add-e : tie.Need-add-e
-add-e c = search needs
+add-e c = omega arith
 
 sub-hex : tie.Need-sub-hex
-sub-hex c = search needs
+sub-hex c = omega arith
 
 part-hex-start : tie.Need-part-hex-start
-part-hex-start c = search needs
+part-hex-start c = omega arith
 
 part-hex-end : tie.Need-part-hex-end
-part-hex-end c = search needs
+part-hex-end c = omega arith
 
 hex-requires : tie.Need-hex-requires
-hex-requires c κs = search needs
+hex-requires c κs = tt
 
 enum-told : tie.Need-enum-told
 enum-told c = search needs
@@ -36,7 +37,7 @@ returns c =
     sym (good-bad (now (a .s)) (a .n) (a .k) (eight (now (a .s)) (a .k) (c .before .before .hex .ensures) (c .enum-told2 .given .1)))
 
 add-if1 : tie.Need-add-if1
-add-if1 c = search needs
+add-if1 c = omega arith
 
 returns-2 : tie.Need-returns-2
 returns-2 c =

@@ -1,4 +1,5 @@
 -- `text::value_at` meets its contract. Assumes nothing.
+use native.Mathlib.Omega.{arith}
 use mathlib.Core.Path.{sym, ap, _∙_}
 use denote.Ref.{now}
 use lib.Ieee.{ofBits}
@@ -9,22 +10,22 @@ use Rattle.text.proofs.value_at.Statement.{statement}
 use Rattle.text.proofs.value_at.Tie as tie
 
 mul-a : tie.Need-mul-a
-mul-a c = search needs
+mul-a c = omega arith
 
 add-e : tie.Need-add-e
-add-e c = search needs
+add-e c = omega arith
 
 sub-hex : tie.Need-sub-hex
-sub-hex c = search needs
+sub-hex c = omega arith
 
 part-hex-start : tie.Need-part-hex-start
-part-hex-start c = search needs
+part-hex-start c = omega arith
 
 part-hex-end : tie.Need-part-hex-end
-part-hex-end c = search needs
+part-hex-end c = omega arith
 
 hex-requires : tie.Need-hex-requires
-hex-requires c κs = search needs
+hex-requires c κs = tt
 
 enum-known-h : tie.Need-enum-known-h
 enum-known-h c = search needs

@@ -29,7 +29,7 @@ returns c =
     (no-room (valuesOk (now (a .s)) (a .n)) _ _ h, refl)
 
 sub-if2 : tie.Need-sub-if2 Inv-loop μ-loop
-sub-if2 c = search needs
+sub-if2 c = omega arith
 
 returns-2 : tie.Need-returns-2 Inv-loop μ-loop
 unfolding stored
@@ -39,7 +39,7 @@ returns-2 c =
     (no-room (valuesOk (now (a .s)) (a .n)) _ _ h, refl)
 
 values-ok-requires : tie.Need-values-ok-requires Inv-loop μ-loop
-values-ok-requires c κs = search needs
+values-ok-requires c κs = tt
 
 loop-holds : tie.Need-loop-holds Inv-loop μ-loop
 unfolding upto
@@ -52,19 +52,19 @@ value-at-requires c κs =
     omega (arith, measured (now (a .s)) (a .n) (omega arith) (l .loop .inv .3))
 
 add-out : tie.Need-add-out Inv-loop μ-loop
-add-out c = search needs
+add-out c = omega arith
 
 mul-out : tie.Need-mul-out Inv-loop μ-loop
-mul-out c = search needs
+mul-out c = omega arith
 
 slice-write-out : tie.Need-slice-write-out Inv-loop μ-loop
-slice-write-out c = search needs
+slice-write-out c = omega arith
 
 add-k : tie.Need-add-k Inv-loop μ-loop
-add-k c = search needs
+add-k c = omega arith
 
 loop-less : tie.Need-loop-less Inv-loop μ-loop
-loop-less c = search needs
+loop-less c = omega arith
 
 loop-again : tie.Need-loop-again Inv-loop μ-loop
 loop-again c =
@@ -79,7 +79,7 @@ loop-again c =
     )
 
 same-length : tie.Need-same-length Inv-loop μ-loop
-same-length c = search needs
+same-length c = c .before .loop .inv .2
 
 returns-3 : tie.Need-returns-3 Inv-loop μ-loop
 unfolding stored

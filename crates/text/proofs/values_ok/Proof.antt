@@ -23,7 +23,7 @@ unfolding valuesOk
 returns c = simp (eq-eqb _ 0 (c .if1 .taken))
 
 add-long : tie.Need-add-long Inv-loop μ-loop
-add-long c = search needs
+add-long c = omega arith
 
 returns-2 : tie.Need-returns-2 Inv-loop μ-loop
 returns-2 c =
@@ -43,10 +43,10 @@ good-at-requires : tie.Need-good-at-requires Inv-loop μ-loop
 good-at-requires c κs = search needs
 
 add-k : tie.Need-add-k Inv-loop μ-loop
-add-k c = search needs
+add-k c = omega arith
 
 loop-less : tie.Need-loop-less Inv-loop μ-loop
-loop-less c = search needs
+loop-less c = omega arith
 
 loop-again : tie.Need-loop-again Inv-loop μ-loop
 loop-again c =
