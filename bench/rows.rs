@@ -137,31 +137,39 @@ fn agree(set: &Set, sides: &mut Sides, queries: &[[f32; 3]]) {
     }
 }
 
+/// `find again` asks the same 64 in every round. All others have so many that the processor cannot learn the searches by heart, as it does with a few dozen that are asked again and again: a listener's head turns.
+const QUERIES: usize = 4096;
+
 fn of_set(set: Set, only: &str, take: &mut dyn FnMut(&mut Row)) {
     let label = format!("{} M={}", set.name, set.m);
     let names = ["load", "find", "filter", "plain"].map(|kind| format!("{kind} {label} N=128 N=512"));
     if !names.iter().any(|name| name.contains(only)) {
         return;
     }
-    let queries = sets::queries(64, 5);
+    let queries = sets::queries(QUERIES, 5);
     for n in [128, 512] {
         let set = set.clone().taps(n);
         let mut sides = sides_of(&set);
         agree(&set, &mut sides, &queries);
         if n == 128 {
             take(&mut sides_row(format!("load {label}"), 1, 4 + 40000 / set.m, &mut sides, |s| s.load()));
-            take(&mut sides_row(format!("find {label}"), 64, 600, &mut sides, |s| {
+            take(&mut sides_row(format!("find {label}"), QUERIES, 24, &mut sides, |s| {
                 for q in &queries {
                     black_box(s.find(*q));
                 }
             }));
+            take(&mut sides_row(format!("find again {label}"), 64, 300, &mut sides, |s| {
+                for q in &queries[..64] {
+                    black_box(s.find(*q));
+                }
+            }));
         }
-        take(&mut sides_row(format!("filter {label} N={n}"), 64, 400, &mut sides, |s| {
+        take(&mut sides_row(format!("filter {label} N={n}"), QUERIES, 16, &mut sides, |s| {
             for q in &queries {
                 s.filter(*q);
             }
         }));
-        take(&mut sides_row(format!("plain {label} N={n}"), 64, 400, &mut sides, |s| {
+        take(&mut sides_row(format!("plain {label} N={n}"), QUERIES, 16, &mut sides, |s| {
             for q in &queries {
                 s.plain(*q);
             }
@@ -172,7 +180,7 @@ fn of_set(set: Set, only: &str, take: &mut dyn FnMut(&mut Row)) {
 // ---- how cost grows
 
 fn growth(take: &mut dyn FnMut(&mut Row)) {
-    let queries = sets::queries(64, 6);
+    let queries = sets::queries(QUERIES, 6);
     for m in [256, 512, 1024, 2048, 4096, 8192, 16384] {
         for set in [sets::sphere(m), sets::chain(m)] {
             let label = format!("{} M={m}", set.name);
@@ -182,7 +190,7 @@ fn growth(take: &mut dyn FnMut(&mut Row)) {
             if set.name == "sphere" || m <= 4096 {
                 take(&mut sides_row(format!("growth load {label}"), 1, rounds, &mut sides, |s| s.load()));
             }
-            take(&mut sides_row(format!("growth find {label}"), 64, 100, &mut sides, |s| {
+            take(&mut sides_row(format!("growth find {label}"), QUERIES, 8, &mut sides, |s| {
                 for q in &queries {
                     black_box(s.find(*q));
                 }
@@ -192,7 +200,7 @@ fn growth(take: &mut dyn FnMut(&mut Row)) {
     for n in [0, 32, 64, 128, 256, 512, 1024, 2048, 4096, 8192] {
         let set = sets::sphere(256).taps(n);
         let mut sides = sides_of(&set);
-        take(&mut sides_row(format!("growth filter N={n}"), 64, 200, &mut sides, |s| {
+        take(&mut sides_row(format!("growth filter N={n}"), QUERIES, 8, &mut sides, |s| {
             for q in &queries {
                 s.filter(*q);
             }
