@@ -193,7 +193,7 @@ static void measure_flat(const char *name, void (*call)(void), size_t level) {
     chain(1);
     for (int i = 0; i < 6; i++)
         values[i] = (float)(i % 3 + 1);
-    report(name, level, SOFA_STACK_LEVEL, used(call) - level);
+    report(name, level, level, used(call) - level);
 }
 
 int main(void) {
@@ -203,8 +203,8 @@ int main(void) {
     measure("find_mut", find_mut, SOFA_STACK_LEVEL, 16, MOST);
     measure("filter", filter, SOFA_STACK_LEVEL, 16, MOST);
     measure("filter_nointerp", filter_nointerp, SOFA_STACK_LEVEL, 16, MOST);
-    measure("load", load, SOFA_STACK_LEVEL, 16, 528);
-    measure_flat("load", load_spherical, SOFA_STACK_LEVEL);
+    measure("load", load, SOFA_STACK_LOAD, 16, 528);
+    measure_flat("load", load_spherical, SOFA_STACK_LOAD);
     measure_flat("filter", filter_four, SOFA_STACK_LEVEL);
     measure_flat("filter_number", filter_number, 0);
     measure_flat("left_response", left_response, 0);
