@@ -3,7 +3,8 @@
 // `search_direction` promises the first found number other than the measurement's own, 65535 where no step before the end gives one
 // (`directionOf`, specs/Neighbors.antt); `find_neighbors` writes the six of one measurement, `fill_neighbors` those of all, 6m entries
 // and nothing past them (`tableOf`). The definitions take each step's sine and cosine anew; the code takes those of an angle that
-// stays fixed once a search, and proofs/Fixed.antt says why that is the same bit for bit.
+// stays fixed once a search, and proofs/Fixed.antt says why that is the same bit for bit. Nor does the code search where a measurement's
+// clearing tells that no other is nearer: over links that were built (`BuiltBy`, specs/Built.antt) that is the same (proofs/Around.antt).
 //
 // The crate `neighbor_laws` has what this means for a set that was loaded: no entry is refused, so a load never says 9, and each
 // entry is 65535 or the number of another measurement.
