@@ -94,7 +94,7 @@ pub fn write(timed: &str, counted: &str, facts: &str) {
          that of the least batch, so that a busy machine disturbs it least. Ratios above 1 (in bold): the port is faster. `source` is the Rust unchanged, \
          `redirected` the Rust with the port's sine, cosine and arctangent. Instructions are callgrind's, of one call. `sphere`: directions at random; `grid`: every \
          5 degrees, in shells. A load takes steps of 0.5 degrees and 0.01. A round asks 4096 \
-         different queries, as a head that turns does; `find again` asks the same 64 in every round, which a processor learns by heart.\n\n## A set\n\n{}\n## Numbers\n\n{}\n## The blend's inner loop\n\nBoth ears, four points.\n\n{}\n\
+         different queries, as a head that turns does; `find again` asks the same 64 in every round, to show whether a processor gains by learning them.\n\n## A set\n\n{}\n## Numbers\n\n{}\n## The blend's inner loop\n\nBoth ears, four points.\n\n{}\n\
          ## How cost grows\n\n![load and find against M, filter against N](speed.svg)\n\n{}\n## Stack\n\n{rest}\n## Memory\n\nNothing is allocated. In bytes, a host lends:\n\n{}\n{notes}",
         table(&of(&["load", "find", "filter", "plain"]), "source", &t, &c),
         table(&of(&["sine", "cosine", "arctangent", "root"]), "C library", &t, &c),

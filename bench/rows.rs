@@ -137,7 +137,7 @@ fn agree(set: &Set, sides: &mut Sides, queries: &[[f32; 3]]) {
     }
 }
 
-/// `find again` asks the same 64 in every round. All others have so many that the processor cannot learn the searches by heart, as it does with a few dozen that are asked again and again: a listener's head turns.
+/// Different queries in a round, as a head that turns asks them; `find again` asks the same 64 in every round, to show whether a processor gains by learning them.
 const QUERIES: usize = 4096;
 
 fn of_set(set: Set, only: &str, take: &mut dyn FnMut(&mut Row)) {
