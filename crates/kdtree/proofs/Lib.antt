@@ -1,4 +1,7 @@
 pub mod Step
+pub mod Space
 pub mod Nodes
 pub mod Whole
 pub mod OneNumber
+pub mod OneProduct
+pub mod NanStart

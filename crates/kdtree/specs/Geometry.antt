@@ -1,8 +1,9 @@
 -- Coordinates and boxes, by the operations of binary32, as document 01 has them ("Distance, tree, tie").
 use mathlib.Core.Path.{_≡_, refl}
 use Prim.Native.Nat.{ℕ, zero, suc}
-use mathlib.Core.Bool.{Bool, cond}
-use lib.Ieee.{Float, binary32, add, sub, lt, le}
+use mathlib.Core.Bool.{Bool, false, not, cond}
+use lib.Dec.{T}
+use lib.Ieee.{Float, nan, inf, fin, binary32, add, sub, lt, le}
 use Rattle.floats.specs.Floats.{zero32}
 use Rattle.points.specs.declared.Point3.{Point3}
 use Rattle.points.specs.Points.{gap}
@@ -34,6 +35,15 @@ nextAxis n = byAxis n 1 2 0
 -- one axis of a box's distance: added only where q lies outside of it
 unfoldable pub outside : Float → Float → Float → Float → Float
 outside sum min max q = cond (lt q min) (add binary32 sum (gap min q)) (cond (lt max q) (add binary32 sum (gap max q)) sum)
+
+-- such a sum so far: a number, and not negative, so not -0
+unfoldable pub firm : Float → Bool
+firm nan = false
+firm (inf s) = not s
+firm (fin s m e) = not s
+
+abbrev pub Firm : Float → Type 0
+Firm x = T (firm x)
 
 -- from +0, in the order x, y, z
 unfoldable pub boxDistSq : BoundingBox → Point3 → Float

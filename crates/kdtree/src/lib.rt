@@ -9,15 +9,15 @@
 use points::Point3;
 ghost use mathlib.Core.Path.{_≡_};
 ghost use mathlib.Core.Bool.{cond};
-ghost use Prim.Native.Nat.{ℕ, _+_, _-_, _*_, _<_, _≤_};
-ghost use lib.ListN.{length, getD};
-ghost use Rattle.kdtree.specs.Geometry.{coordOf, nextAxis, outside, boxDistSq, boxAt, lower, upper, grown, withMin, withMax, goesLeft, leftFirst};
-ghost use Rattle.kdtree.specs.Tree.{linkOf, subtree};
-ghost use Rattle.kdtree.specs.Search.{search, improve, nearerBox, fartherBox};
-ghost use Rattle.kdtree.specs.Packed.{bestIn, searchedIn};
+ghost use Prim.Native.Nat.{ℕ, _+_, _-_, _*_, _%_, _<_, _≤_};
+ghost use lib.ListN.{length, getD, set};
+ghost use Rattle.kdtree.specs.Geometry.{coordOf, nextAxis, Firm, outside, boxDistSq, boxAt, lower, upper, grown, goesLeft, leftFirst};
+ghost use Rattle.kdtree.specs.Tree.{linkOf, followed, subtree};
+ghost use Rattle.kdtree.specs.Search.{search, improve};
+ghost use Rattle.kdtree.specs.Packed.{bestIn, NoNan, begunWith, withDist, searchedIn, boxIn, offSide};
 ghost use Rattle.points.specs.Points.{pointAt, distSq};
 ghost use Rattle.floats.specs.Floats.{zero32};
-ghost use lib.Ieee.{binary32, sub, le};
+ghost use lib.Ieee.{binary32, nan, sub, le, ofBits};
 ghost use Rattle.kdtree.specs.Insert.{listsOf, storedAs, slotIn, written, roomFor, insertOf};
 ghost use Rattle.kdtree.specs.Nearest.{placeOf, lengthsFor, nearestOf};
 
@@ -43,19 +43,17 @@ pub fn next_axis(axis: u8) -> u8
     }
 }
 
-// One axis of a box's distance: added only where q lies outside of it.
+// One axis of a box's distance: added only where q lies outside of it. One square is made and added, that of +0 inside, so that nothing jumps: +0 added
+// leaves the sum as it is, since that is not -0.
 fn beyond(sum: f32, min: f32, max: f32, q: f32) -> f32
-    ensures { λ r. ⌜ r ≡ outside sum min max q ⌝ }
+    requires { ⌜ Firm sum ⌝ }
+    ensures { λ r. ⌜ (r ≡ outside sum min max q) × Firm r ⌝ }
 {
-    if q < min {
-        let d = min - q;
-        sum + d * d
-    } else if q > max {
-        let d = max - q;
-        sum + d * d
-    } else {
-        sum
-    }
+    let a = min - q;
+    let b = max - q;
+    let above = if q > max { b } else { 0.0 };
+    let g = if q < min { a } else { above };
+    sum + g * g
 }
 
 // ---- the box
@@ -108,75 +106,6 @@ impl BoundingBox {
             max_z: most(self.max_z, p.z),
         }
     }
-
-    // The squared distance from a point to the box: +0 inside.
-    pub fn dist_sq(self, q: Point3) -> f32
-        ensures { λ r. ⌜ r ≡ boxDistSq self q ⌝ }
-    {
-        let x = beyond(0.0, self.min_x, self.max_x, q.x);
-        let y = beyond(x, self.min_y, self.max_y, q.y);
-        beyond(y, self.min_z, self.max_z, q.z)
-    }
-
-    // One lower corner coordinate replaced.
-    pub fn with_min(mut self, axis: u8, v: f32) -> Self
-        ensures { λ r. ⌜ r ≡ withMin self axis v ⌝ }
-    {
-        match axis {
-            0 => {
-                self.min_x = v;
-                self
-            }
-            1 => {
-                self.min_y = v;
-                self
-            }
-            _ => {
-                self.min_z = v;
-                self
-            }
-        }
-    }
-
-    // One upper corner coordinate replaced.
-    pub fn with_max(mut self, axis: u8, v: f32) -> Self
-        ensures { λ r. ⌜ r ≡ withMax self axis v ⌝ }
-    {
-        match axis {
-            0 => {
-                self.max_x = v;
-                self
-            }
-            1 => {
-                self.max_y = v;
-                self
-            }
-            _ => {
-                self.max_z = v;
-                self
-            }
-        }
-    }
-}
-
-fn nearer_box(rect: BoundingBox, axis: u8, v: f32, go_left: bool) -> BoundingBox
-    ensures { λ r. ⌜ r ≡ nearerBox «go_left» rect axis v ⌝ }
-{
-    if go_left {
-        rect.with_max(axis, v)
-    } else {
-        rect.with_min(axis, v)
-    }
-}
-
-fn farther_box(rect: BoundingBox, axis: u8, v: f32, go_left: bool) -> BoundingBox
-    ensures { λ r. ⌜ r ≡ fartherBox «go_left» rect axis v ⌝ }
-{
-    if go_left {
-        rect.with_min(axis, v)
-    } else {
-        rect.with_max(axis, v)
-    }
 }
 
 // ---- links
@@ -203,6 +132,14 @@ pub fn link_of(count: usize, owner: usize, l: u16) -> Link
         return Link::Bad;
     }
     Link::Bad
+}
+
+// Absent or good.
+fn may_follow(count: usize, owner: usize, l: u16) -> bool
+    ensures { λ r. ⌜ r ≡ followed (linkOf count owner l) ⌝ }
+{
+    let n = l as usize;
+    (l == 65535) | ((owner < n) & (n < count))
 }
 
 // The link at n of the one list or of the other.
@@ -238,10 +175,12 @@ fn packed(bits: u32, place: u16, visits: u16) -> u64
     (bits as u64 * 65536 + place as u64) * 65536 + visits as u64
 }
 
+// The distance is never NaN here, whose pattern from_bits would not take.
 fn dist_in(best: u64) -> f32
+    requires { ⌜ NoNan best ⌝ }
     ensures { λ r. ⌜ r ≡ bestIn best .dist ⌝ }
 {
-    floats::value((best / 4294967296) as u32)
+    f32::from_bits((best / 4294967296) as u32)
 }
 
 fn visits_in(best: u64) -> u16
@@ -251,6 +190,7 @@ fn visits_in(best: u64) -> u16
 }
 
 fn searched_in(best: u64) -> Searched
+    requires { ⌜ NoNan best ⌝ }
     ensures { λ r. ⌜ r ≡ searchedIn best ⌝ }
 {
     let visits = visits_in(best);
@@ -264,40 +204,82 @@ fn searched_in(best: u64) -> Searched
     })
 }
 
-// The query stands in an array: a level of the search keeps one address of it, and reads a coordinate by the axis.
-fn query_point(q: &[f32; 3]) -> Point3
-    ensures { λ r. ⌜ r ≡ pointAt (now (q .entry)) 0 ⌝ }
+// The space of a search, nine numbers: the box's least corner, its greatest corner, the query.
+//
+// One of them replaced: what stood there.
+fn put(space: &mut [f32; 9], at: usize, v: f32) -> f32
+    requires { ⌜ at < 9 ⌝ }
+    ensures { λ r. ⌜ (r ≡ getD (now (space .entry)) at nan) × (now (space .exit) ≡ set (now (space .entry)) at v) ⌝ }
 {
-    Point3 {
-        x: q[0],
-        y: q[1],
-        z: q[2],
-    }
+    let was = space[at];
+    space[at] = v;
+    was
 }
 
-fn query_coord(q: &[f32; 3], axis: u8) -> f32
-    requires { ⌜ axis < 3 ⌝ }
-    ensures { λ r. ⌜ r ≡ coordOf (pointAt (now (q .entry)) 0) axis ⌝ }
+// From the query to the box: +0 inside.
+fn to_box(space: &[f32; 9]) -> f32
+    ensures { λ r. ⌜ r ≡ boxDistSq (boxIn (now (space .entry))) (pointAt (now (space .entry)) 2) ⌝ }
 {
-    let at = axis as usize;
-    q[at]
+    let x = beyond(0.0, space[0], space[3], space[6]);
+    let y = beyond(x, space[1], space[4], space[7]);
+    beyond(y, space[2], space[5], space[8])
+}
+
+// From the query to the box with one corner coordinate replaced, for the side that a link leads to: an absent side is farther than anything.
+fn to_side(space: &mut [f32; 9], at: usize, v: f32, l: u16) -> f32
+    requires { ⌜ at < 6 ⌝ }
+    ensures { λ r. ⌜ (r ≡ offSide l (boxDistSq (boxIn (set (now (space .entry)) at v)) (pointAt (now (space .entry)) 2))) × (now (space .exit) ≡ now (space .entry)) ⌝ }
+{
+    let was = put(space, at, v);
+    let d = to_box(space);
+    space[at] = was;
+    let none = 1.0 / 0.0;
+    if l == 65535 { none } else { d }
+}
+
+// One coordinate of the query, by the axis.
+fn query_coord(space: &[f32; 9], axis: usize) -> f32
+    requires { ⌜ axis < 3 ⌝ }
+    ensures { λ r. ⌜ r ≡ coordOf (pointAt (now (space .entry)) 2) axis ⌝ }
+{
+    let at = 6 + axis;
+    space[at]
 }
 
 // One coordinate of a place, by the axis.
-fn place_coord(xs: &[f32], place: usize, axis: u8) -> f32
-    requires { ⌜ (axis < 3) × (3 * place + 2 < length (now xs)) ⌝ }
-    ensures { λ r. ⌜ r ≡ coordOf (pointAt (now (xs .entry)) place) axis ⌝ }
+pub fn place_coord(xs: &&[f32], place: usize, axis: usize) -> f32
+    requires { ⌜ (axis < 3) × (place < 16384) × (3 * place + 2 < length (now (now xs))) ⌝ }
+    ensures { λ r. ⌜ r ≡ coordOf (pointAt (now (now (xs .entry))) place) axis ⌝ }
 {
-    let at = 3 * place + axis as usize;
+    let at = 3 * place + axis;
     xs[at]
 }
 
 // From a place to the query.
-fn dist_at(xs: &[f32], place: usize, q: &[f32; 3]) -> f32
-    requires { ⌜ 3 * place + 2 < length (now xs) ⌝ }
-    ensures { λ r. ⌜ r ≡ distSq (pointAt (now (xs .entry)) place) (pointAt (now (q .entry)) 0) ⌝ }
+fn dist_at(xs: &&[f32], place: usize, space: &[f32; 9]) -> f32
+    requires { ⌜ 3 * place + 2 < length (now (now xs)) ⌝ }
+    ensures { λ r. ⌜ r ≡ distSq (pointAt (now (now (xs .entry))) place) (pointAt (now (space .entry)) 2) ⌝ }
 {
-    points::dist_sq(points::point_at(xs, place), query_point(q))
+    let q = Point3 {
+        x: space[6],
+        y: space[7],
+        z: space[8],
+    };
+    points::dist_sq(points::point_at(*xs, place), q)
+}
+
+// The axis below: the depth mod 3.
+pub fn turned(axis: usize) -> usize
+    requires { ⌜ axis < 3 ⌝ }
+    ensures { λ r. ⌜ r ≡ nextAxis axis ⌝ }
+{
+    if axis == 2 { 0 } else { axis + 1 }
+}
+
+pub fn which(first: bool, a: usize, b: usize) -> usize
+    ensures { λ r. ⌜ r ≡ cond first a b ⌝ }
+{
+    if first { a } else { b }
 }
 
 // Query minus node, on the node's axis.
@@ -315,7 +297,8 @@ pub fn either(first: bool, a: u16, b: u16) -> u16
 
 // The node wins only if it is strictly nearer.
 fn better(n: u16, d: f32, best: u64) -> u64
-    ensures { λ r. ⌜ bestIn r ≡ improve n d (bestIn best) ⌝ }
+    requires { ⌜ NoNan best ⌝ }
+    ensures { λ r. ⌜ (bestIn r ≡ improve n d (bestIn best)) × NoNan r ⌝ }
 {
     if d < dist_in(best) {
         packed(f32::to_bits(d), n, visits_in(best))
@@ -326,59 +309,86 @@ fn better(n: u16, d: f32, best: u64) -> u64
 
 // Nearer side, node, farther side.
 //
-// All that needs no best is worked out before the nearer side: both boxes, since the same two tests choose their corners, and the two distances,
-// so that a level keeps two numbers of its six and its point, and after the nearer side only compares. Both links are read before the
-// side is known, so that the next node need not wait for a second read.
+// All levels share one array of the box and the query, and the lists stand behind one address each, so that a level hands on few words: it writes
+// the one corner that differs, and puts the old value back. Both links are read and tested, and all that needs no best is worked out, before the
+// nearer side (a bad link on either side stops the search there or later alike), so that after it one comparison decides: an absent farther side
+// is infinitely far.
 fn nearest_rec(
-    xs: &[f32],
-    left: &[u16],
-    right: &[u16],
+    xs: &&[f32],
+    left: &&[u16],
+    right: &&[u16],
     m: usize,
-    q: &[f32; 3],
-    rect: BoundingBox,
+    space: &mut [f32; 9],
     node: usize,
-    axis: u8,
+    axis: usize,
     best: u64,
 ) -> u64
-    requires { ⌜ (node < m) × (3 * m ≤ length (now xs)) × (m ≤ length (now left)) × (m ≤ length (now right)) × (m ≤ 16384) × (axis < 3) ⌝ }
-    ensures { λ r. ⌜ ((f : ℕ) → m - node ≤ f
-        → searchedIn r ≡ search m (pointAt (now (q .entry)) 0) (subtree (now (left .entry)) (now (right .entry)) (now (xs .entry)) m f node) rect axis (bestIn best)) ⌝ }
+    requires { ⌜ (node < m) × (3 * m ≤ length (now (now xs))) × (m ≤ length (now (now left))) × (m ≤ length (now (now right))) × (m ≤ 16384) × (axis < 3) × (length (now space) ≡ 9) × NoNan best ⌝ }
+    ensures answer { λ r. ⌜ ((f : ℕ) → m - node ≤ f
+        → searchedIn r ≡ search m (pointAt (now (space .entry)) 2) (subtree (now (now (left .entry))) (now (now (right .entry))) (now (now (xs .entry))) m f node) (boxIn (now (space .entry))) axis (bestIn best)) ⌝ }
+    ensures kept { λ r. ⌜ now (space .exit) ≡ now (space .entry) ⌝ }
+    ensures number { λ r. ⌜ NoNan r ⌝ }
 {
     if m <= visits_in(best) as usize {
         return STOPPED;
     }
     let l = left[node];
     let r = right[node];
-    let d = dist_at(xs, node, q);
+    let d = dist_at(xs, node, space);
     let seen = best + 1;
     if (l == 65535) & (r == 65535) {
         return better(node as u16, d, seen);
     }
+    if !(may_follow(m, node, l) & may_follow(m, node, r)) {
+        return STOPPED;
+    }
     let v = place_coord(xs, node, axis);
-    let go_left = left_first(query_coord(q, axis), v);
-    let ax = next_axis(axis);
-    let near = nearer_box(rect, axis, v, go_left);
-    let far = farther_box(rect, axis, v, go_left);
-    let to_far = far.dist_sq(query_point(q));
-    let t = match link_of(m, node, either(go_left, l, r)) {
-        Link::Gone => seen,
-        Link::To(n) => nearest_rec(xs, left, right, m, q, near, n, ax, seen),
-        Link::Bad => STOPPED,
-    };
+    let go_left = left_first(query_coord(space, axis), v);
+    let near = either(go_left, l, r);
+    let far = either(go_left, r, l);
+    let i = which(go_left, axis + 3, axis);
+    let j = which(go_left, axis, axis + 3);
+    let to_far = to_side(space, j, v, far);
+    let next = turned(axis);
+    let mut t = seen;
+    if near != 65535 {
+        let was = put(space, i, v);
+        t = nearest_rec(xs, left, right, m, space, near as usize, next, seen);
+        space[i] = was;
+    }
     if visits_in(t) == 65535 {
         return STOPPED;
     }
     let b = better(node as u16, d, t);
-    match link_of(m, node, either(go_left, r, l)) {
-        Link::Gone => return b,
-        Link::Bad => return STOPPED,
-        Link::To(n) => {
-            if to_far < dist_in(b) {
-                let last = nearest_rec(xs, left, right, m, q, far, n, ax, b);
-                return last;
-            }
-            return b;
-        }
+    if to_far < dist_in(b) {
+        let was = put(space, j, v);
+        let last = nearest_rec(xs, left, right, m, space, far as usize, next, b);
+        space[j] = was;
+        return last;
+    }
+    b
+}
+
+// The pattern that a search begins with: that of -infinity for NaN. Nothing is less than the one or the other, so the search is the same.
+fn first_bits(start: f32) -> u32
+    ensures { λ r. ⌜ (r % 2147483648 ≤ 2139095040) × (ofBits binary32 r ≡ begunWith start) ⌝ }
+{
+    if start != start {
+        return 0xff80_0000;
+    }
+    f32::to_bits(start)
+}
+
+fn with_dist(s: Searched, d: f32) -> Searched
+    ensures { λ r. ⌜ r ≡ withDist d s ⌝ }
+{
+    match s {
+        Searched::Found(b) => Searched::Found(Best {
+            dist: d,
+            place: b.place,
+            visits: b.visits,
+        }),
+        Searched::Stopped => Searched::Stopped,
     }
 }
 
@@ -396,9 +406,23 @@ pub fn nearest_place(
 {
     let root = points::point_at(positions, 0);
     let start = points::dist_sq(root, q);
-    let at = [q.x, q.y, q.z];
-    let begun = packed(floats::pattern(start), 0, 0);
-    searched_in(nearest_rec(positions, left, right, count, &at, bounds, 0, 0, begun))
+    let mut space = [
+        bounds.min_x,
+        bounds.min_y,
+        bounds.min_z,
+        bounds.max_x,
+        bounds.max_y,
+        bounds.max_z,
+        q.x,
+        q.y,
+        q.z,
+    ];
+    let begun = packed(first_bits(start), 0, 0);
+    let found = searched_in(nearest_rec(&positions, &left, &right, count, &mut space, 0, 0, begun));
+    if start != start {
+        return with_dist(found, start);
+    }
+    found
 }
 
 pub enum Named {

@@ -33,16 +33,20 @@ returns c =
     let a = c .before .before .before .before .args in
     let t = c .before .before .if1 .taken in
     let l : lt (a .d) (bestIn (a .best) .dist) ≡ true = sym (ap (lt (a .d)) (c .before .before .before .dist-in .ensures)) ∙ t in
-    one.unpacked (a .d) (a .n) (c .before .visits-in .result) (c .packed .result) (held (c .before .before .before .before)) (omega arith) (omega arith) (c .packed .ensures)
-    ∙ ap (bestOf (a .d) (a .n)) (c .before .visits-in .ensures)
-    ∙ sym (ap (λ (b : Bool). cond b (bestOf (a .d) (a .n) (bestIn (a .best) .visits)) (bestIn (a .best))) l)
+    let h = held (c .before .before .before .before) in
+    let k = one.made-no-nan _ (a .n) (c .before .visits-in .result) (c .packed .result) (one.bits-no-nan (a .d) h (less-no-nan _ _ t)) (omega arith) (omega arith) (c .packed .ensures) in (
+      one.unpacked (a .d) (a .n) (c .before .visits-in .result) (c .packed .result) (held (c .before .before .before .before)) (omega arith) (omega arith) (c .packed .ensures)
+          ∙ ap (bestOf (a .d) (a .n)) (c .before .visits-in .ensures)
+          ∙ sym (ap (λ (b : Bool). cond b (bestOf (a .d) (a .n) (bestIn (a .best) .visits)) (bestIn (a .best))) l),
+      k,
+    )
 
 returns-2 : tie.Need-returns-2
 unfolding improve
 returns-2 c =
     let a = c .before .before .args in
     let l : lt (a .d) (bestIn (a .best) .dist) ≡ false = sym (ap (lt (a .d)) (c .before .dist-in .ensures)) ∙ c .if1 .left in
-    sym (ap (λ (b : Bool). cond b (bestOf (a .d) (a .n) (bestIn (a .best) .visits)) (bestIn (a .best))) l)
+    (sym (ap (λ (b : Bool). cond b (bestOf (a .d) (a .n) (bestIn (a .best) .visits)) (bestIn (a .best))) l), c .before .before .pre)
 
 pub better-spec : {M : Type 1} → statement M
 better-spec =

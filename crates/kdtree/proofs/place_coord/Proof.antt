@@ -13,11 +13,11 @@ add-at c = search needs
 mul-result : tie.Need-mul-result
 mul-result c = search needs
 
-shared-slice-read-result : tie.Need-shared-slice-read-result
-shared-slice-read-result c = search needs
+index-1-result : tie.Need-index-1-result
+index-1-result c = search needs
 
 returns : tie.Need-returns
 returns c = at-axis _ _ _ (omega arith)
 
 pub place-coord-spec : {M : Type 1} → statement M
-place-coord-spec = tie.close (tie.spec mul-at add-at mul-result shared-slice-read-result returns)
+place-coord-spec = tie.close (tie.spec mul-at add-at mul-result index-1-result returns)
