@@ -23,7 +23,7 @@ unsafe extern "C" {
 /// The least and the median time of a call of each side, in nanoseconds: row, side, least, median.
 pub fn time(path: &str, only: &str) {
     let mut file = File::create(path).expect("a file for the times");
-    rows::each(true, only.is_empty(), only, &mut |row: &mut Row| {
+    rows::each(true, only.is_empty() || only.starts_with("growth"), only, &mut |row: &mut Row| {
         let mut times: Vec<Vec<f64>> = row.sides.iter().map(|_| Vec::new()).collect();
         for _ in 0..row.rounds {
             for ((_, run), times) in row.sides.iter_mut().zip(&mut times) {

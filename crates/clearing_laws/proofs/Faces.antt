@@ -8,16 +8,20 @@ use lib.Ieee.{Float, nan, inf, fin, binary32, add, sub, lt, le}
 use lib.Ieee.Bits.{is-true, is-false}
 use Rattle.floats.specs.Floats.{zero32}
 use Rattle.floats.proofs.Cross.{of-taken, of-left}
-use Rattle.floats.proofs.Preorder.{number, lt-numbers, not-lt→le, lt-le-trans}
+use Rattle.floats.proofs.Preorder.{lt-irrefl-f, lt-trans-f, number, lt-numbers, not-lt→le, lt-le-trans}
 use Rattle.points.specs.declared.Point3.{Point3}
 use Rattle.points.specs.Points.{gap, distSq}
 use Rattle.kdtree.specs.declared.BoundingBox.{BoundingBox}
-use Rattle.kdtree.specs.Geometry.{byAxis, coordOf, outside, boxDistSq, withMin, withMax}
+use Rattle.kdtree.specs.Geometry.{byAxis, coordOf, boxAt, outside, boxDistSq, withMin, withMax}
 use Rattle.walks.proofs.Box.{Between, Inside, box-under, from-zero}
-use Rattle.clearing.specs.Clearing.{everywhere, minAt, maxAt, between, nearerThanFaces, aloneIn}
+use Rattle.clearing.specs.Clearing.{minAt, maxAt, between, nearerThanFaces, aloneIn, none}
 use Rattle.clearing_laws.proofs.Cleared.{Out}
 
 -- ---- nothing is beyond infinity
+
+-- all of space
+unfoldable pub everywhere : BoundingBox
+everywhere = record { «min_x» = inf true; «min_y» = inf true; «min_z» = inf true; «max_x» = inf false; «max_y» = inf false; «max_z» = inf false }
 
 none-above : (x : Float) → lt (inf false) x ≡ false
 unfolding lt
@@ -149,3 +153,10 @@ out-farther b own p root q x t o n = go (o .out)
     go : T (not (lt (minAt b (o .axis)) (coordOf x (o .axis)))) ⊎ T (not (lt (coordOf x (o .axis)) (maxAt b (o .axis)))) → lt (distSq p q) (distSq x q) ≡ true
     go (inl h) = farther (distSq p q) _ (distSq x q) (f .to-low) (behind-low (o .axis) (minAt b (o .axis)) x q h (f .low)) n
     go (inr h) = farther (distSq p q) _ (distSq x q) (f .to-high) (behind-high (o .axis) (maxAt b (o .axis)) x q h (f .high)) n
+
+-- p alone has no inside
+pub none-tested : (p : Point3) (own : ℕ) (x root q : Point3) → aloneIn (none p .faces) own x root q ≡ true → ⊥
+unfolding none boxAt minAt maxAt coordOf byAxis
+none-tested p own x root q h =
+    let f = tested (none p .faces) own x root q h .faces 0 in
+    T-not (lt (p .x) (p .x)) (lt-irrefl-f (p .x)) (lt-trans-f (p .x) (q .x) (p .x) (of-taken (f .low)) (of-taken (f .high)))

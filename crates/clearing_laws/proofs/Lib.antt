@@ -1,3 +1,4 @@
 pub mod Cleared
 pub mod Faces
+pub mod Listed
 pub mod Alone

@@ -1,14 +1,14 @@
 -- What the fill of the table asks of the lists: that they are as a build leaves them; and what that gives its searches. Definitions only.
 use mathlib.Core.Path.{_≡_}
-use mathlib.Core.Bool.{true}
+use mathlib.Core.Bool.{true, false}
 use mathlib.Core.List.{List}
 use Prim.Native.Nat.{ℕ}
 use lib.Ieee.{Float}
 use Rattle.points.specs.declared.Point3.{Point3}
 use Rattle.points.specs.Points.{pointAt}
-use Rattle.kdtree.specs.declared.BoundingBox.{BoundingBox}
 use Rattle.kdtree.specs.Nearest.{placeOf}
-use Rattle.clearing.specs.Clearing.{aloneIn}
+use Rattle.clearing.specs.declared.Clearing.{Clearing}
+use Rattle.clearing.specs.Clearing.{aloneIn, nearestIn}
 use Rattle.lookup.specs.declared.Lookup.{Lookup}
 use Rattle.lookup.specs.declared.Located.the-variants.{At}
 use Rattle.lookup.specs.Build.{Links, linksOf, linked, overBoth, boxOf}
@@ -22,7 +22,9 @@ pub record BuiltBy (look : Lookup) (m : ℕ) (xs : List Float) (left right : Lis
   pub links : linksOf left right ≡ overBoth (linked xs m) lent
   pub bounds : look .bounds ≡ boxOf xs m
 
--- a box around a measurement: a point that passes its test finds that measurement
-abbrev pub Surrounds : Lookup → ℕ → List Float → List ℕ → List ℕ → ℕ → BoundingBox → Type 0
-Surrounds look m xs left right own b =
-    (p : Point3) → aloneIn b own (pointAt xs own) (pointAt xs 0) p ≡ true → locatedAs (placeOf xs left right m (look .bounds) p) ≡ At own
+-- a clearing around a measurement: a point that passes its test finds the nearest of those in it
+abbrev pub Surrounds : Lookup → ℕ → List Float → List ℕ → List ℕ → ℕ → Clearing → Type 0
+Surrounds look m xs left right own c =
+    (p : Point3)
+    → (let s = nearestIn xs m p own c in
+    s .tied ≡ false → aloneIn (c .faces) (s .place) (pointAt xs (s .place)) (pointAt xs 0) p ≡ true → locatedAs (placeOf xs left right m (look .bounds) p) ≡ At (s .place))

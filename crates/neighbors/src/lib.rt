@@ -4,13 +4,13 @@
 // (`directionOf`, specs/Neighbors.antt); `find_neighbors` writes the six of one measurement, `fill_neighbors` those of all, 6m entries
 // and nothing past them (`tableOf`). The definitions take each step's sine and cosine anew; the code takes those of an angle that
 // stays fixed once a search, and proofs/Fixed.antt says why that is the same bit for bit. Nor does the code search where a measurement's
-// clearing tells that no other is nearer: over links that were built (`BuiltBy`, specs/Built.antt) that is the same (proofs/Around.antt).
+// clearing tells which is nearest: over links that were built (`BuiltBy`, specs/Built.antt) that is the same (proofs/Around.antt).
 //
 // The crate `neighbor_laws` has what this means for a set that was loaded: no entry is refused, so a load never says 9, and each
 // entry is 65535 or the number of another measurement.
+use clearing::Clearing;
 use coords::Spherical;
 use coords::Turn;
-use kdtree::BoundingBox;
 use limits::Verdict;
 use lookup::Located;
 use lookup::Lookup;
@@ -64,8 +64,8 @@ fn turned(before: Turn, step: f32, i: u32, degrees: f32) -> Turn
     }
 }
 
-// The measurement nearest to q. Most steps lead to no other than its own: where q lies so deep in its clearing that no other can be
-// nearer, no search is wanted.
+// The measurement nearest to q. Most steps lead to no place that the clearing of their own does not reach: where q lies so deep in it
+// that none outside can be nearer than the nearest of those in it, no search is wanted.
 fn locate_around(
     look: Lookup,
     m: usize,
@@ -73,7 +73,7 @@ fn locate_around(
     left: &[u16],
     right: &[u16],
     own: u16,
-    around: BoundingBox,
+    around: Clearing,
     q: Point3,
 ) -> Located
     requires { ⌜ (own < m) × (3 * m ≤ length (now cartesian)) × (m ≤ length (now left)) × (m ≤ length (now right)) × (m ≤ 16384)
@@ -81,11 +81,12 @@ fn locate_around(
     ensures { λ r. ⌜ r ≡ locateOf look m (now (cartesian .entry)) (now (left .entry)) (now (right .entry)) q ⌝ }
 {
     let p = look.normalize_radius(q);
-    let place = own as usize;
+    let found = clearing::nearest_in(m, cartesian, own as usize, around, p);
+    let place = found.place;
     let here = points::point_at(cartesian, place);
     let root = points::point_at(cartesian, 0);
-    if clearing::alone(around, place, here, root, p) {
-        return Located::At(own);
+    if !found.tied & clearing::alone(around.faces, place, here, root, p) {
+        return Located::At(place as u16);
     }
     look.nearest(m, cartesian, left, right, p)
 }
@@ -98,7 +99,7 @@ fn search_direction(
     left: &[u16],
     right: &[u16],
     own: u16,
-    around: BoundingBox,
+    around: Clearing,
     from: Spherical,
     step: Spherical,
     cap: u32,
@@ -175,15 +176,15 @@ fn find_neighbors(
     angle_step: f32,
     radius_step: f32,
     own: usize,
+    around: Clearing,
     neighbors: &mut [u16],
 ) -> Verdict
     requires { ⌜ (own < m) × (3 * m ≤ length (now cartesian)) × (m ≤ length (now left)) × (m ≤ length (now right)) × (m ≤ 16384) × (6 * m ≤ length (now neighbors))
-        × BuiltBy look m (now cartesian) (now left) (now right) ⌝ }
+        × Surrounds look m (now cartesian) (now left) (now right) own around ⌝ }
     ensures { λ r. ⌜ tabledAs r (now (neighbors .exit)) ≡ rowOf look m (now (cartesian .entry)) (now (left .entry)) (now (right .entry)) «angle_step» «radius_step» own (now (neighbors .entry)) ⌝ }
 {
     let from = coords::cartesian_to_spherical(points::point_at(cartesian, own));
     let number = own as u16;
-    let around = clearing::clear(m, cartesian, left, right, own);
     let mut d = 0;
     while d < 6 {
         let step = step_along(d, angle_step, radius_step);
@@ -224,8 +225,12 @@ pub fn fill_neighbors(
         × BuiltBy look m (now cartesian) (now left) (now right) ⌝ }
     ensures { λ r. ⌜ tabledAs r (now (neighbors .exit)) ≡ tableOf look m (now (cartesian .entry)) (now (left .entry)) (now (right .entry)) «angle_step» «radius_step» (now (neighbors .entry)) ⌝ }
 {
+    let arc = look.radius_max * angle_step * 0.017453292;
+    let mut reach = look.radius_max;
     let mut i = 0;
     while i < m {
+        let around = clearing::clear(m, cartesian, left, right, i, reach, arc);
+        reach = clearing::reach_after(reach, arc, around.count);
         let told = find_neighbors(
             look,
             m,
@@ -235,6 +240,7 @@ pub fn fill_neighbors(
             angle_step,
             radius_step,
             i,
+            around,
             neighbors,
         );
         let Verdict::Fine = told else {

@@ -6,17 +6,16 @@ use denote.Ref.{now}
 use borrow.Author.Needs.{needs}
 use Rattle.neighbors.specs.Neighbors.{entryOf, writing, rowOf}
 use Rattle.neighbors.proofs.Table as table
-use Rattle.neighbors.proofs.Around.{surrounds}
 use Rattle.neighbors.proofs.find_neighbors.Statement.{statement}
 use Rattle.neighbors.proofs.find_neighbors.Tie as tie
 
 abbrev Inv-loop : tie.InvT-loop
-Inv-loop look m cartesian left right angle-step radius-step own neighbors₀ from number around d₀ neighbors d =
+Inv-loop look m cartesian left right angle-step radius-step own around neighbors₀ from number d₀ neighbors d =
     (d ≤ 6) × (length neighbors ≡ length neighbors₀)
     × (writing (entryOf look m cartesian left right angle-step radius-step) (6 - d) (6 * own + d) neighbors ≡ writing (entryOf look m cartesian left right angle-step radius-step) 6 (6 * own) neighbors₀)
 
 abbrev μ-loop : tie.MeasureT-loop
-μ-loop look m cartesian left right angle-step radius-step own neighbors₀ from number around d₀ neighbors d = 6 - d
+μ-loop look m cartesian left right angle-step radius-step own around neighbors₀ from number d₀ neighbors d = 6 - d
 
 point-at-requires : tie.Need-point-at-requires Inv-loop μ-loop
 point-at-requires c κs = omega arith
@@ -27,12 +26,9 @@ cartesian-to-spherical-requires c κs = search needs
 cast-number : tie.Need-cast-number Inv-loop μ-loop
 cast-number c = search needs
 
-clear-requires : tie.Need-clear-requires Inv-loop μ-loop
-clear-requires c κs = let h = c .before .before .before .before .before .before .pre in (h .0, h .1, h .2, h .3)
-
 loop-holds : tie.Need-loop-holds Inv-loop μ-loop
 loop-holds c =
-    let a = c .before .before .before .before .before .before .before .args in
+    let a = c .before .before .before .before .before .before .args in
     let e : 6 - 0 ≡ 6 = omega arith in
     let f : 6 * a .own + 0 ≡ 6 * a .own = omega arith in
     (omega arith, refl, ap (λ (j : ℕ). writing (entryOf (a .look) (a .m) (now (a .cartesian)) (now (a .left)) (now (a .right)) (a .angle-step) (a .radius-step)) j (6 * a .own + 0) (now (a .neighbors))) e ∙ ap (λ (k : ℕ). writing (entryOf (a .look) (a .m) (now (a .cartesian)) (now (a .left)) (now (a .right)) (a .angle-step) (a .radius-step)) 6 k (now (a .neighbors))) f)
@@ -45,10 +41,8 @@ max-steps-requires c κs = search needs
 
 search-direction-requires : tie.Need-search-direction-requires Inv-loop μ-loop
 search-direction-requires c κs =
-    let h = c .before .before .before .before .before .before .before .before .before .before .before .pre in
-    let a = c .before .before .before .before .before .before .before .before .before .before .before .args in
-    let b = c .before .before .before .before .clear in
-    (h .0, h .1, h .2, h .3, h .4, surrounds (a .look) (a .m) (now (a .cartesian)) (now (a .left)) (now (a .right)) (h .6) (a .own) (h .0) (b .result) (b .ensures))
+    let h = c .before .before .before .before .before .before .before .before .before .before .pre in
+    (h .0, h .1, h .2, h .3, h .4, h .6)
 
 enum-known-found : tie.Need-enum-known-found Inv-loop μ-loop
 enum-known-found c = search needs
@@ -65,7 +59,7 @@ same-length c = c .before .before .before .before .before .before .before .loop 
 returns : tie.Need-returns Inv-loop μ-loop
 unfolding rowOf
 returns c =
-    let a = c .before .before .before .before .before .before .before .before .before .before .before .before .before .before .before .args in
+    let a = c .before .before .before .before .before .before .before .before .before .before .before .before .before .before .args in
     let l = c .before .before .before .before .before .before .before .loop in
     let d = l .d in
     let t = c .before .before .before .before .before .before .loop-test .taken in
@@ -73,31 +67,31 @@ returns c =
     let j = 6 - d in
     let i = 6 - (d + 1) in
     let ej : j ≡ suc i = omega (arith, t) in
-    let e = table.entry-is (a .look) (a .m) (now (a .cartesian)) (now (a .left)) (now (a .right)) (a .angle-step) (a .radius-step) (a .own) d t (c .before .before .before .before .before .before .before .before .before .before .point-at .result) (c .before .before .before .before .before .before .before .before .before .cartesian-to-spherical .result) (c .before .before .before .before .before .step-along .result) (c .before .before .before .before .max-steps .result)
-    (c .before .before .before .before .before .before .before .before .before .before .point-at .ensures) (c .before .before .before .before .before .before .before .before .before .cartesian-to-spherical .ensures) (c .before .before .before .before .before .step-along .ensures) (c .before .before .before .before .max-steps .ensures) (c .before .before .before .search-direction .result) (c .before .before .before .search-direction .ensures) in
+    let e = table.entry-is (a .look) (a .m) (now (a .cartesian)) (now (a .left)) (now (a .right)) (a .angle-step) (a .radius-step) (a .own) d t (c .before .before .before .before .before .before .before .before .before .point-at .result) (c .before .before .before .before .before .before .before .before .cartesian-to-spherical .result) (c .before .before .before .before .before .step-along .result) (c .before .before .before .before .max-steps .result)
+    (c .before .before .before .before .before .before .before .before .before .point-at .ensures) (c .before .before .before .before .before .before .before .before .cartesian-to-spherical .ensures) (c .before .before .before .before .before .step-along .ensures) (c .before .before .before .before .max-steps .ensures) (c .before .before .before .search-direction .result) (c .before .before .before .search-direction .ensures) in
     table.refused (entryOf (a .look) (a .m) (now (a .cartesian)) (now (a .left)) (now (a .right)) (a .angle-step) (a .radius-step)) j i k _ ej _ e _ _ (c .before .enum-told .given .1) _ (c .verdict .ensures) ∙ l .inv .2
 
 mul-neighbors : tie.Need-mul-neighbors Inv-loop μ-loop
 mul-neighbors c =
-    let h = c .before .before .before .before .before .before .before .before .before .before .before .before .before .before .before .pre in
+    let h = c .before .before .before .before .before .before .before .before .before .before .before .before .before .before .pre in
     let t = c .before .before .before .before .before .before .loop-test .taken in
     omega (arith, t, h .0, h .4)
 
 add-neighbors : tie.Need-add-neighbors Inv-loop μ-loop
 add-neighbors c =
-    let h = c .before .before .before .before .before .before .before .before .before .before .before .before .before .before .before .pre in
+    let h = c .before .before .before .before .before .before .before .before .before .before .before .before .before .before .pre in
     let t = c .before .before .before .before .before .before .loop-test .taken in
     omega (arith, t, h .0, h .4)
 
 mul-neighbors-2 : tie.Need-mul-neighbors-2 Inv-loop μ-loop
 mul-neighbors-2 c =
-    let h = c .before .before .before .before .before .before .before .before .before .before .before .before .before .before .before .pre in
+    let h = c .before .before .before .before .before .before .before .before .before .before .before .before .before .before .pre in
     let t = c .before .before .before .before .before .before .loop-test .taken in
     omega (arith, t, h .0, h .4)
 
 slice-write-neighbors : tie.Need-slice-write-neighbors Inv-loop μ-loop
 slice-write-neighbors c =
-    let h = c .before .before .before .before .before .before .before .before .before .before .before .before .before .before .before .pre in
+    let h = c .before .before .before .before .before .before .before .before .before .before .before .before .before .before .pre in
     let t = c .before .before .before .before .before .before .loop-test .taken in
     let g = c .before .before .before .before .before .before .before .loop .inv .1 in
     omega (arith, t, g, h .0, h .5)
@@ -110,7 +104,7 @@ loop-less c = let t = c .before .before .before .before .before .before .loop-te
 
 loop-again : tie.Need-loop-again Inv-loop μ-loop
 loop-again c =
-    let a = c .before .before .before .before .before .before .before .before .before .before .before .before .before .before .before .args in
+    let a = c .before .before .before .before .before .before .before .before .before .before .before .before .before .before .args in
     let l = c .before .before .before .before .before .before .before .loop in
     let d = l .d in
     let t = c .before .before .before .before .before .before .loop-test .taken in
@@ -118,8 +112,8 @@ loop-again c =
     let j = 6 - d in
     let i = 6 - (d + 1) in
     let ej : j ≡ suc i = omega (arith, t) in
-    let e = table.entry-is (a .look) (a .m) (now (a .cartesian)) (now (a .left)) (now (a .right)) (a .angle-step) (a .radius-step) (a .own) d t (c .before .before .before .before .before .before .before .before .before .before .point-at .result) (c .before .before .before .before .before .before .before .before .before .cartesian-to-spherical .result) (c .before .before .before .before .before .step-along .result) (c .before .before .before .before .max-steps .result)
-    (c .before .before .before .before .before .before .before .before .before .before .point-at .ensures) (c .before .before .before .before .before .before .before .before .before .cartesian-to-spherical .ensures) (c .before .before .before .before .before .step-along .ensures) (c .before .before .before .before .max-steps .ensures) (c .before .before .before .search-direction .result) (c .before .before .before .search-direction .ensures) in
+    let e = table.entry-is (a .look) (a .m) (now (a .cartesian)) (now (a .left)) (now (a .right)) (a .angle-step) (a .radius-step) (a .own) d t (c .before .before .before .before .before .before .before .before .before .point-at .result) (c .before .before .before .before .before .before .before .before .cartesian-to-spherical .result) (c .before .before .before .before .before .step-along .result) (c .before .before .before .before .max-steps .result)
+    (c .before .before .before .before .before .before .before .before .before .point-at .ensures) (c .before .before .before .before .before .before .before .before .cartesian-to-spherical .ensures) (c .before .before .before .before .before .step-along .ensures) (c .before .before .before .before .max-steps .ensures) (c .before .before .before .search-direction .result) (c .before .before .before .search-direction .ensures) in
     let f : 6 * a .own + (d + 1) ≡ k + 1 = omega arith in (
       omega (arith, t),
       simp length-set (l .inv .1),
@@ -133,10 +127,10 @@ same-length-2 c = c .before .loop .inv .1
 returns-2 : tie.Need-returns-2 Inv-loop μ-loop
 unfolding rowOf
 returns-2 c =
-    let a = c .before .before .before .before .before .before .before .before .before .args in
+    let a = c .before .before .before .before .before .before .before .before .args in
     let l = c .before .loop in
     let e : 6 - l .d ≡ 0 = omega arith in
     table.at-end (entryOf (a .look) (a .m) (now (a .cartesian)) (now (a .left)) (now (a .right)) (a .angle-step) (a .radius-step)) (6 - l .d) (6 * a .own + l .d) _ e ∙ l .inv .2
 
 pub find-neighbors-spec : {M : Type 1} → statement M
-find-neighbors-spec = tie.close (tie.spec Inv-loop μ-loop point-at-requires cartesian-to-spherical-requires cast-number clear-requires loop-holds step-along-requires max-steps-requires search-direction-requires enum-known-found enum-told verdict-requires same-length returns mul-neighbors add-neighbors mul-neighbors-2 slice-write-neighbors add-d loop-less loop-again same-length-2 returns-2)
+find-neighbors-spec = tie.close (tie.spec Inv-loop μ-loop point-at-requires cartesian-to-spherical-requires cast-number loop-holds step-along-requires max-steps-requires search-direction-requires enum-known-found enum-told verdict-requires same-length returns mul-neighbors add-neighbors mul-neighbors-2 slice-write-neighbors add-d loop-less loop-again same-length-2 returns-2)
