@@ -43,7 +43,7 @@ pub fn time(path: &str, only: &str) {
 
 /// Under callgrind each side's batch ends in a dump that is called ROW|SIDE|CALLS.
 pub fn count(only: &str) {
-    rows::each(false, false, only, &mut |row: &mut Row| {
+    rows::each(false, only.starts_with("growth"), only, &mut |row: &mut Row| {
         for (side, run) in &mut row.sides {
             let name = CString::new(format!("{}|{side}|{}", row.name, row.calls)).unwrap();
             run();

@@ -22,7 +22,7 @@ pub fn each(timed: bool, whole: bool, only: &str, take: &mut dyn FnMut(&mut Row)
         }
     }
     if whole {
-        growth(take);
+        growth(only, take);
     }
 }
 
@@ -179,11 +179,14 @@ fn of_set(set: Set, only: &str, take: &mut dyn FnMut(&mut Row)) {
 
 // ---- how cost grows
 
-fn growth(take: &mut dyn FnMut(&mut Row)) {
+fn growth(only: &str, take: &mut dyn FnMut(&mut Row)) {
     let queries = sets::queries(QUERIES, 6);
     for m in [256, 512, 1024, 2048, 4096, 8192, 16384] {
         for set in [sets::sphere(m), sets::chain(m)] {
             let label = format!("{} M={m}", set.name);
+            if !["load", "find"].iter().any(|call| format!("growth {call} {label}").contains(only)) {
+                continue;
+            }
             let mut sides = sides_of(&set);
             let rounds = if set.name == "chain" { 2 } else { 3 + 12000 / m };
             // a load of a chain asks each place for all: past 4096 it takes many seconds on every side
