@@ -12,6 +12,8 @@ use Rattle.floats.proofs.Preorder.{lt-irrefl-f, lt-trans-f, number, lt-numbers,
 use Rattle.points.specs.declared.Point3.{Point3}
 use Rattle.points.specs.Points.{gap, distSq}
 use Rattle.kdtree.specs.declared.BoundingBox.{BoundingBox}
+use Rattle.kdtree.proofs.Space.{lt-most}
+use Rattle.kdtree.proofs.NanStart.{lt-least}
 use Rattle.kdtree.specs.Geometry.{byAxis, coordOf, boxAt, outside, boxDistSq, withMin, withMax}
 use Rattle.walks.proofs.Box.{Between, Inside, box-under, from-zero}
 use Rattle.clearing.specs.Clearing.{minAt, maxAt, between, nearerThanFaces, aloneIn, none}
@@ -23,31 +25,17 @@ use Rattle.clearing_laws.proofs.Cleared.{Out}
 unfoldable pub everywhere : BoundingBox
 everywhere = record { «min_x» = inf true; «min_y» = inf true; «min_z» = inf true; «max_x» = inf false; «max_y» = inf false; «max_z» = inf false }
 
-none-above : (x : Float) → lt (inf false) x ≡ false
-unfolding lt
-none-above nan = refl
-none-above (inf true) = refl
-none-above (inf false) = refl
-none-above (fin s m e) = refl
-
-none-below : (x : Float) → lt x (inf true) ≡ false
-unfolding lt
-none-below nan = refl
-none-below (inf true) = refl
-none-below (inf false) = refl
-none-below (fin s m e) = refl
-
 free : (x : Float) → Between (inf true) (inf false) x
-free x = (of-left (none-below x), of-left (none-above x))
+free x = (of-left (lt-least x), of-left (lt-most x))
 
 -- an axis without faces adds nothing, one face adds the gap to it
 no-face : (r q : Float) → outside r (inf true) (inf false) q ≡ r
 unfolding outside
-no-face r q = simp (none-below q, none-above q)
+no-face r q = simp (lt-least q, lt-most q)
 
 below-face : (r lo q : Float) → lt lo q ≡ true → outside r (inf true) lo q ≡ add binary32 r (gap lo q)
 unfolding outside
-below-face r lo q h = simp (none-below q, h)
+below-face r lo q h = simp (lt-least q, h)
 
 above-face : (r hi q : Float) → lt q hi ≡ true → outside r hi (inf false) q ≡ add binary32 r (gap hi q)
 unfolding outside
@@ -61,30 +49,30 @@ unfolding everywhere withMax coordOf byAxis boxDistSq
 behind-low zero lo x q h e =
     subst (λ (z : Float). T (not (lt (distSq x q) z)))
     (no-face _ (q .z) ∙ no-face _ (q .y) ∙ below-face zero32 lo (q .x) e ∙ from-zero lo (q .x))
-    (box-under (withMax everywhere 0 lo) x q (record { on-x = (of-left (none-below (x .x)), h); on-y = free (x .y); on-z = free (x .z) }))
+    (box-under (withMax everywhere 0 lo) x q (record { on-x = (of-left (lt-least (x .x)), h); on-y = free (x .y); on-z = free (x .z) }))
 behind-low (suc zero) lo x q h e =
     subst (λ (z : Float). T (not (lt (distSq x q) z)))
     (no-face _ (q .z) ∙ below-face _ lo (q .y) e ∙ ap (λ (r : Float). add binary32 r (gap lo (q .y))) (no-face zero32 (q .x)) ∙ from-zero lo (q .y))
-    (box-under (withMax everywhere 1 lo) x q (record { on-x = free (x .x); on-y = (of-left (none-below (x .y)), h); on-z = free (x .z) }))
+    (box-under (withMax everywhere 1 lo) x q (record { on-x = free (x .x); on-y = (of-left (lt-least (x .y)), h); on-z = free (x .z) }))
 behind-low (suc (suc n)) lo x q h e =
     subst (λ (z : Float). T (not (lt (distSq x q) z)))
     (below-face _ lo (q .z) e ∙ ap (λ (r : Float). add binary32 r (gap lo (q .z))) (no-face _ (q .y) ∙ no-face zero32 (q .x)) ∙ from-zero lo (q .z))
-    (box-under (withMax everywhere 2 lo) x q (record { on-x = free (x .x); on-y = free (x .y); on-z = (of-left (none-below (x .z)), h) }))
+    (box-under (withMax everywhere 2 lo) x q (record { on-x = free (x .x); on-y = free (x .y); on-z = (of-left (lt-least (x .z)), h) }))
 
 behind-high : (n : ℕ) (hi : Float) (x q : Point3) → T (not (lt (coordOf x n) hi)) → lt (coordOf q n) hi ≡ true → T (not (lt (distSq x q) (gap hi (coordOf q n))))
 unfolding everywhere withMin coordOf byAxis boxDistSq
 behind-high zero hi x q h e =
     subst (λ (z : Float). T (not (lt (distSq x q) z)))
     (no-face _ (q .z) ∙ no-face _ (q .y) ∙ above-face zero32 hi (q .x) e ∙ from-zero hi (q .x))
-    (box-under (withMin everywhere 0 hi) x q (record { on-x = (h, of-left (none-above (x .x))); on-y = free (x .y); on-z = free (x .z) }))
+    (box-under (withMin everywhere 0 hi) x q (record { on-x = (h, of-left (lt-most (x .x))); on-y = free (x .y); on-z = free (x .z) }))
 behind-high (suc zero) hi x q h e =
     subst (λ (z : Float). T (not (lt (distSq x q) z)))
     (no-face _ (q .z) ∙ above-face _ hi (q .y) e ∙ ap (λ (r : Float). add binary32 r (gap hi (q .y))) (no-face zero32 (q .x)) ∙ from-zero hi (q .y))
-    (box-under (withMin everywhere 1 hi) x q (record { on-x = free (x .x); on-y = (h, of-left (none-above (x .y))); on-z = free (x .z) }))
+    (box-under (withMin everywhere 1 hi) x q (record { on-x = free (x .x); on-y = (h, of-left (lt-most (x .y))); on-z = free (x .z) }))
 behind-high (suc (suc n)) hi x q h e =
     subst (λ (z : Float). T (not (lt (distSq x q) z)))
     (above-face _ hi (q .z) e ∙ ap (λ (r : Float). add binary32 r (gap hi (q .z))) (no-face _ (q .y) ∙ no-face zero32 (q .x)) ∙ from-zero hi (q .z))
-    (box-under (withMin everywhere 2 hi) x q (record { on-x = free (x .x); on-y = free (x .y); on-z = (h, of-left (none-above (x .z))) }))
+    (box-under (withMin everywhere 2 hi) x q (record { on-x = free (x .x); on-y = free (x .y); on-z = (h, of-left (lt-most (x .z))) }))
 
 -- ---- the test
 

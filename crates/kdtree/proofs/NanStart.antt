@@ -22,7 +22,7 @@ lt-nan nan = refl
 lt-nan (inf s) = refl
 lt-nan (fin s m e) = refl
 
-lt-least : (d : Float) → lt d (inf true) ≡ false
+pub lt-least : (d : Float) → lt d (inf true) ≡ false
 unfolding lt
 lt-least nan = refl
 lt-least (inf true) = refl

@@ -120,11 +120,15 @@ unfolding offSide
 off-there l d e = simp (ne-eqb l 65535 e)
 
 -- infinity is below no float
-top : (y : Float) → lt (inf false) y ≡ true → ⊥
+pub lt-most : (y : Float) → lt (inf false) y ≡ false
 unfolding lt
-top nan e = let z : _≡_ {A = ℕ} 0 1 = cc in absurd (omega arith)
-top (inf s) e = let z : _≡_ {A = ℕ} 0 1 = cc in absurd (omega arith)
-top (fin s m k) e = let z : _≡_ {A = ℕ} 0 1 = cc in absurd (omega arith)
+lt-most nan = refl
+lt-most (inf true) = refl
+lt-most (inf false) = refl
+lt-most (fin s m k) = refl
+
+top : (y : Float) → lt (inf false) y ≡ true → ⊥
+top y e = let z = lt-most y in let w : _≡_ {A = ℕ} 0 1 = cc in absurd (omega arith)
 
 -- a side that is nearer than something is there
 pub off-nearer : (l : ℕ) (x d y : Float) → x ≡ offSide l d → lt x y ≡ true → (l ≡ 65535 → ⊥) × (x ≡ d)
