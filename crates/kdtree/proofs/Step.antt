@@ -1,14 +1,14 @@
 -- One step of the search and of the way down to a slot, in the terms of the code: each value that the code has, with the equation that it
 -- has for it, and what the definition then says. Assumes nothing.
 use mathlib.Core.Path.{_≡_, refl, sym, ap, _∙_}
-use mathlib.Core.Bool.{Bool, true, false, cond, _&&_}
+use mathlib.Core.Bool.{Bool, true, false, cond}
 use mathlib.Core.List.{List}
 use Prim.Native.Nat.{ℕ, zero, suc, _+_, _*_, _-_, _<_, _≤_}
 use native.Mathlib.Omega.{arith}
-use lib.ListN.{getD, set}
+use lib.ListN.{getD}
 use lib.Dec.{ltb, eqb}
 use lib.Ieee.{Float, nan, binary32, sub, lt, le}
-use borrow.Author.Tests.{le-ltb, lt-ltb, ltb-true, eqb-true, eqb-false}
+use borrow.Author.Tests.{le-ltb, lt-ltb, ltb-true}
 use Rattle.floats.specs.Floats.{zero32}
 use Rattle.points.specs.declared.Point3.{Point3}
 use Rattle.kdtree.specs.declared.BoundingBox.{BoundingBox}
@@ -18,14 +18,12 @@ use Rattle.kdtree.specs.declared.Searched.the-variants.{Found, Stopped}
 use Rattle.kdtree.specs.declared.Link.{Link}
 use Rattle.kdtree.specs.declared.Link.the-variants.{Gone, To, Bad}
 use Rattle.kdtree.specs.Geometry.{byAxis, coordOf, boxDistSq, nextAxis, leftFirst, goesLeft}
-use Rattle.kdtree.specs.Tree.{Tree, linkOf, followed, sideOf, subtree}
+use Rattle.kdtree.specs.Tree.{Tree, linkOf, sideOf, subtree}
 use Rattle.points.specs.Points.{pointAt, distSq}
 use Rattle.kdtree.specs.declared.Slot.{Slot}
 use Rattle.kdtree.specs.declared.Slot.the-variants.{Left, Right, None}
 use Rattle.kdtree.specs.Insert.{sideSlot, slotIn}
 use Rattle.kdtree.specs.Search.{search, improve, visited, farther, afterNear, nearerBox, fartherBox, Go}
-use Rattle.kdtree.specs.Packed.{boxIn, offSide}
-use Rattle.kdtree.proofs.Space.{query-kept, off-there, link-gone, link-there, link-refused}
 
 -- ---- what a link says
 
@@ -66,6 +64,9 @@ at-axis xs i (suc zero) h = refl
 at-axis xs i (suc (suc zero)) h = refl
 at-axis xs i (suc (suc (suc axis))) h = absurd (omega arith)
 
+pub first-axis : (xs : List Float) (axis : ℕ) → axis < 3 → getD xs axis nan ≡ coordOf (pointAt xs 0) axis
+first-axis xs axis h = let e : axis ≡ 3 * 0 + axis = omega arith in ap (λ (k : ℕ). getD xs k nan) e ∙ at-axis xs 0 axis h
+
 pub next-below : (axis nx : ℕ) → nx ≡ nextAxis axis → nx < 3
 unfolding nextAxis byAxis
 next-below zero nx e = omega (arith, e)
@@ -79,12 +80,6 @@ unfolding leftFirst
 first-left q p axis x v g ex ev eg = cc
 
 -- ---- one step
-
-swapped : (x y : Bool) → x && y ≡ false → y && x ≡ false
-swapped true true e = e
-swapped true false e = refl
-swapped false true e = refl
-swapped false false e = refl
 
 module _ (left right : List ℕ) (xs : List Float) (count : ℕ) where
   abbrev pub T : ℕ → ℕ → Tree
@@ -129,10 +124,10 @@ module _ (left right : List ℕ) (xs : List Float) (count : ℕ) where
 
     -- a node with neither side: both sides are passed over
     pub leaf : (n : ℕ) (b : BoundingBox) (axis : ℕ) (s : Best) → n < count → s .visits < count → getD left n 0 ≡ 65535 → getD right n 0 ≡ 65535
-        → (d : Float) (r : Best) → d ≡ distSq (pointAt xs n) q → r ≡ improve n d (visited s) → After n b axis s (Found r)
+        → (d : Float) (u r : Best) → d ≡ distSq (pointAt xs n) q → u ≡ visited s → r ≡ improve n d u → After n b axis s (Found r)
     unfolding search side linkOf sideOf farther afterNear
-    leaf n b axis s h v el er d r ed e zero le = absurd (omega arith)
-    leaf n b axis s h v el er d r ed e (suc k) le = sym (go (leftFirst q (pointAt xs n) axis) refl)
+    leaf n b axis s h v el er d u r ed eu e zero le = absurd (omega arith)
+    leaf n b axis s h v el er d u r ed eu e (suc k) le = sym (go (leftFirst q (pointAt xs n) axis) refl)
       where
         go : (g : Bool) → leftFirst q (pointAt xs n) axis ≡ g → search count q (T (suc k) n) b axis s ≡ Found r
         go true eg = step k n b axis s true eg v ∙ simp (el, er) (cc)
@@ -176,13 +171,13 @@ module _ (left right : List ℕ) (xs : List Float) (count : ℕ) where
             let z : linkOf count n (near (h .g) n) ≡ Bad = cc in
             rw z
 
-        pub near-to : (l m : ℕ) (lk : Link) (nb : BoundingBox) (r : Searched) → l ≡ near (h .g) n → lk ≡ linkOf count n l → lk ≡ To m
-            → nb ≡ nearerBox (h .g) b axis (h .v) → After m nb (h .nx) (visited s) r → Near r
+        pub near-to : (l m : ℕ) (lk : Link) (u : Best) (nb : BoundingBox) (r : Searched) → l ≡ near (h .g) n → lk ≡ linkOf count n l → lk ≡ To m
+            → u ≡ visited s → nb ≡ nearerBox (h .g) b axis (h .v) → After m nb (h .nx) u r → Near r
         unfolding side sideOf
-        near-to l m lk nb r el ek e eb after k hk =
+        near-to l m lk u nb r el ek e eu eb after k hk =
             let z : linkOf count n (near (h .g) n) ≡ To m = cc in
             let i = link-to count n (near (h .g) n) m (sym z) in
-            let a : r ≡ search count q (T k m) nb (h .nx) (visited s) = after k (omega arith) in
+            let a : r ≡ search count q (T k m) nb (h .nx) u = after k (omega arith) in
             let w : m ≡ near (h .g) n = i .is in
             rw z (cc)
 
@@ -203,29 +198,6 @@ module _ (left right : List ℕ) (xs : List Float) (count : ℕ) where
             fr k (omega arith)
             ∙ sym (step k n b axis s (h .g) z (h .room) ∙ ap (λ (y : Searched). afterNear y (rest k n (h .g) b axis)) (sym (nr k (omega arith)) ∙ e))
 
-        -- a bad link of the farther side, seen before the nearer side: whatever that side answers, the search stops
-        pub refused : (l : ℕ) → l ≡ far (h .g) n → linkOf count n l ≡ Bad → After n b axis s Stopped
-        unfolding side sideOf farther afterNear
-        refused l el e zero le = let i = h .below in absurd (omega arith)
-        refused l el e (suc k) le =
-            let z : leftFirst q (pointAt xs n) axis ≡ h .g = cc in
-            sym (step k n b axis s (h .g) z (h .room) ∙ go (search count q (side k n (near (h .g) n)) (nearerBox (h .g) b axis (coordOf (pointAt xs n) axis)) (nextAxis axis) (visited s)))
-          where
-            there : linkOf count n (far (h .g) n) ≡ Bad
-            there = cc
-
-            go : (w : Searched) → afterNear w (rest k n (h .g) b axis) ≡ Stopped
-            go (Found t) = rw there
-            go Stopped = refl
-
-        bad-side : followed (linkOf count n (near (h .g) n)) && followed (linkOf count n (far (h .g) n)) ≡ false → After n b axis s Stopped
-        bad-side e = go (followed (linkOf count n (near (h .g) n))) (followed (linkOf count n (far (h .g) n))) refl refl e
-          where
-            go : (x y : Bool) → followed (linkOf count n (near (h .g) n)) ≡ x → followed (linkOf count n (far (h .g) n)) ≡ y → x && y ≡ false → After n b axis s Stopped
-            go false y ex ey e = stopped Stopped (near-bad (near (h .g) n) (linkOf count n (near (h .g) n)) refl refl (link-refused count n (near (h .g) n) ex)) refl
-            go true false ex ey e = refused (far (h .g) n) refl (link-refused count n (far (h .g) n) ey)
-            go true true ex ey e = let z : _≡_ {A = ℕ} 0 1 = cc in absurd (omega arith)
-
         -- what the code knows past the farther side's link, t being the best after the nearer side
         pub record There (t : Best) : Type 0 where
           pub d : Float
@@ -244,64 +216,36 @@ module _ (left right : List ℕ) (xs : List Float) (count : ℕ) where
               let z : linkOf count n (far (h .g) n) ≡ Gone = cc in
               rw z (cc)
 
-          pub far-in : (m : ℕ) (fb : BoundingBox) (x : Float) (r : Searched) → k .lk ≡ To m → fb ≡ fartherBox (h .g) b axis (h .v) → x ≡ boxDistSq fb q
-              → lt x (k .best .dist) ≡ true → After m fb (h .nx) (k .best) r → Far t r
+          pub far-bad : k .lk ≡ Bad → Far t Stopped
+          unfolding side sideOf farther
+          far-bad e f hf =
+              let z : linkOf count n (far (h .g) n) ≡ Bad = cc in
+              rw z
+
+          pub far-in : (m : ℕ) (fb : BoundingBox) (y : Bool) (r : Searched) → k .lk ≡ To m → fb ≡ fartherBox (h .g) b axis (h .v)
+              → y ≡ lt (boxDistSq (fartherBox (h .g) b axis (h .v)) q) (k .best .dist) → y ≡ true → After m fb (h .nx) (k .best) r → Far t r
           unfolding side sideOf
-          far-in m fb x r e ef ex less after f hf =
+          far-in m fb y r e ef ey less after f hf =
               let z : linkOf count n (far (h .g) n) ≡ To m = cc in
               let i = link-to count n (far (h .g) n) m (sym z) in
               let a : r ≡ search count q (T f m) fb (h .nx) (k .best) = after f (omega arith) in
               let w : m ≡ far (h .g) n = i .is in
               let lo : lt (boxDistSq fb q) (k .best .dist) ≡ true = cc in
-              let y : farther q (T f m) (search count q (T f m)) fb (h .nx) (k .best) ≡ search count q (T f m) fb (h .nx) (k .best)
+              let z2 : farther q (T f m) (search count q (T f m)) fb (h .nx) (k .best) ≡ search count q (T f m) fb (h .nx) (k .best)
               = farther-node f m (search count q (T f m)) fb (h .nx) (k .best) (i .below) (omega arith) ∙ rw lo in
               rw z (cc)
 
-          pub far-out : (m : ℕ) (fb : BoundingBox) (x : Float) → k .lk ≡ To m → fb ≡ fartherBox (h .g) b axis (h .v) → x ≡ boxDistSq fb q
-              → lt x (k .best .dist) ≡ false → Far t (Found (k .best))
+          pub far-out : (m : ℕ) (y : Bool) → k .lk ≡ To m → y ≡ lt (boxDistSq (fartherBox (h .g) b axis (h .v)) q) (k .best .dist) → y ≡ false → Far t (Found (k .best))
           unfolding side sideOf
-          far-out m fb x e ef ex less f hf =
+          far-out m y e ey less f hf =
               let z : linkOf count n (far (h .g) n) ≡ To m = cc in
               let i = link-to count n (far (h .g) n) m (sym z) in
               let w : m ≡ far (h .g) n = i .is in
+              let fb = fartherBox (h .g) b axis (h .v) in
               let lo : lt (boxDistSq fb q) (k .best .dist) ≡ false = cc in
-              let y : farther q (T f m) (search count q (T f m)) fb (h .nx) (k .best) ≡ Found (k .best)
+              let z2 : farther q (T f m) (search count q (T f m)) fb (h .nx) (k .best) ≡ Found (k .best)
               = farther-node f m (search count q (T f m)) fb (h .nx) (k .best) (i .below) (omega arith) ∙ rw lo in
               rw z (cc)
-
-          -- one test, where an absent side is infinitely far
-          pub far-passed : (fb : BoundingBox) (x : Float) → followed (k .lk) ≡ true → fb ≡ fartherBox (h .g) b axis (h .v) → x ≡ offSide (k .l) (boxDistSq fb q)
-              → lt x (k .best .dist) ≡ false → Far t (Found (k .best))
-          far-passed fb x ok ef ex less = go (eqb (k .l) 65535) refl
-            where
-              go : (z : Bool) → eqb (k .l) 65535 ≡ z → Far t (Found (k .best))
-              go true e = far-gone (k .ek ∙ link-gone count n (k .l) (eqb-true _ _ e))
-              go false e =
-                  let f = eqb-false _ _ e in
-                  far-out (k .l) fb x (k .ek ∙ link-there count n (k .l) f (sym (ap followed (k .ek)) ∙ ok)) ef (ex ∙ sym (off-there (k .l) (boxDistSq fb q) f)) less
-
-      -- a bad link on either side: whichever side is the nearer, the search stops
-      pub either-bad : (x y : Bool) → n < count → s .visits < count → x ≡ followed (linkOf count n (getD left n 0)) → y ≡ followed (linkOf count n (getD right n 0)) → x && y ≡ false → After n b axis s Stopped
-      either-bad x y hn hs ex ey e = go (leftFirst q (pointAt xs n) axis) refl
-        where
-          z : followed (linkOf count n (getD left n 0)) && followed (linkOf count n (getD right n 0)) ≡ false
-          z = rw (← ex, ← ey) e
-
-          go : (g : Bool) → g ≡ leftFirst q (pointAt xs n) axis → After n b axis s Stopped
-          go true eg = bad-side (record { v = coordOf (pointAt xs n) axis; g = true; nx = nextAxis axis; below = hn; room = hs; ev = refl; eg = eg; en = refl }) z
-          go false eg =
-              bad-side (record { v = coordOf (pointAt xs n) axis; g = false; nx = nextAxis axis; below = hn; room = hs; ev = refl; eg = eg; en = refl })
-              (swapped (followed (linkOf count n (getD left n 0))) (followed (linkOf count n (getD right n 0))) z)
-
-  -- the answer of a level that was handed the space with one corner replaced
-  pub down : (s s1 s2 : List Float) (i m nx axis : ℕ) (v : Float) (u w : Best) (r : Searched) → i < 6 → s1 ≡ s → s2 ≡ set s1 i v → nx ≡ nextAxis axis → u ≡ w
-      → After (pointAt s2 2) m (boxIn s2) nx u r → After (pointAt s 2) m (boxIn (set s i v)) (nextAxis axis) w r
-  down s s1 s2 i m nx axis v u w r h e1 e2 en eu a f hf =
-      let e : s2 ≡ set s i v = e2 ∙ ap (λ (z : List Float). set z i v) e1 in
-      let k : pointAt s2 2 ≡ pointAt s 2 = ap (λ (z : List Float). pointAt z 2) e ∙ query-kept s i v h in
-      let x : boxIn s2 ≡ boxIn (set s i v) = ap boxIn e in
-      let y = a f hf in
-      cc
 
   -- ---- insertion: the slot of a new point p
   module _ (p : Point3) where

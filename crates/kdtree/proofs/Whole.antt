@@ -3,7 +3,9 @@ use mathlib.Core.Path.{_≡_, refl, sym, ap, _∙_, subst}
 use mathlib.Core.Bool.{Bool, true, false, cond, not, _&&_}
 use Prim.Native.Nat.{ℕ, _+_, _*_, _-_, _<_, _≤_}
 use native.Mathlib.Omega.{arith}
+use mathlib.Core.List.{List}
 use lib.ListN.{length, getD}
+use lib.Ieee.{Float}
 use borrow.Author.Tests.{lt-ltb, le-leb, eq-eqb, ne-eqb, ltb-true, leb-true}
 use Rattle.points.specs.declared.Point3.{Point3}
 use Rattle.kdtree.specs.declared.BoundingBox.{BoundingBox}
@@ -14,9 +16,12 @@ use Rattle.kdtree.specs.declared.Slot.{Slot}
 use Rattle.kdtree.specs.declared.Slot.the-variants.{Left, Right, None}
 use Rattle.kdtree.specs.declared.Inserted.the-variants as inserted
 use Rattle.kdtree.specs.declared.Named.the-variants as named
+use Rattle.points.specs.Points.{pointAt, distSq}
 use Rattle.kdtree.specs.Geometry.{boxAt, grown}
+use Rattle.kdtree.specs.Tree.{subtree}
+use Rattle.kdtree.specs.Search.{search, bestOf}
 use Rattle.kdtree.specs.Insert.{Lists, storedAs, treeOf, slotIn, written, linkedLeft, linkedRight, hasRoom, bySlot, insertOf}
-use Rattle.kdtree.specs.Nearest.{readable, numberOf, startOf, placeOf, nearestOf}
+use Rattle.kdtree.specs.Nearest.{readable, numberOf, startAt, startOf, foundFrom, placeOf, nearestOf}
 use Rattle.kdtree.proofs.Nodes.{subtree-below, found-below, slot-below, OwnerBelow}
 
 -- both of two tests
@@ -75,10 +80,16 @@ module _ (a : Lists) (c : ℕ) (b : BoundingBox) (q : Point3) where
     found-none e = ap (numberOf (a .numbers)) (sym e) ∙ read
 
     pub found-in : (r : Best) → w ≡ Found r → r .place < c
-    unfolding placeOf startOf
+    unfolding foundFrom startAt
     found-in r e =
         found-below c c q (treeOf a c c) b 0 (startOf (a .positions) q) r (subtree-below (a .left) (a .right) (a .positions) c c 0 (omega arith)) (omega arith)
         (sym e ∙ ew)
+
+-- the search from a root, in the terms of the code: the point that stands there, its distance, and what the search says of them
+pub found-place : (xs : List Float) (left right : List ℕ) (c root : ℕ) (b : BoundingBox) (q x : Point3) (d : Float) (w : Searched) → x ≡ pointAt xs root → d ≡ distSq x q
+    → w ≡ search c q (subtree left right xs c c root) b 0 (bestOf d root 0) → w ≡ foundFrom xs left right c root b q
+unfolding foundFrom startAt
+found-place xs left right c root b q x d w ex ed ew = ew ∙ ap (λ (d : Float). search c q (subtree left right xs c c root) b 0 (bestOf d root 0)) (ed ∙ ap (λ (p : Point3). distSq p q) ex)
 
 -- ---- insert
 

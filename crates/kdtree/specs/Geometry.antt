@@ -1,6 +1,6 @@
 -- Coordinates and boxes, by the operations of binary32, as document 01 has them ("Distance, tree, tie").
 use mathlib.Core.Path.{_≡_, refl}
-use Prim.Native.Nat.{ℕ, zero, suc}
+use Prim.Native.Nat.{ℕ, zero, suc, _+_}
 use mathlib.Core.Bool.{Bool, false, not, cond}
 use lib.Dec.{T}
 use lib.Ieee.{Float, nan, inf, fin, binary32, add, sub, lt, le}
@@ -72,6 +72,13 @@ grown b p = record {
   «max_z» = upper (b .«max_z») (p .z);
 }
 
+-- the corner coordinates on an axis
+unfoldable pub minAt : BoundingBox → ℕ → Float
+minAt b n = byAxis n (b .«min_x») (b .«min_y») (b .«min_z»)
+
+unfoldable pub maxAt : BoundingBox → ℕ → Float
+maxAt b n = byAxis n (b .«max_x») (b .«max_y») (b .«max_z»)
+
 -- one corner replaced
 unfoldable pub withMin : BoundingBox → ℕ → Float → BoundingBox
 unfolding byAxis
@@ -86,6 +93,10 @@ withMax b n v =
     byAxis n (record { «min_x» = b .«min_x»; «min_y» = b .«min_y»; «min_z» = b .«min_z»; «max_x» = v; «max_y» = b .«max_y»; «max_z» = b .«max_z» })
     (record { «min_x» = b .«min_x»; «min_y» = b .«min_y»; «min_z» = b .«min_z»; «max_x» = b .«max_x»; «max_y» = v; «max_z» = b .«max_z» })
     (record { «min_x» = b .«min_x»; «min_y» = b .«min_y»; «min_z» = b .«min_z»; «max_x» = b .«max_x»; «max_y» = b .«max_y»; «max_z» = v })
+
+-- the number of such a corner, from 0 to 5: the least x, y, z, then the greatest
+unfoldable pub cornerOf : ℕ → Bool → ℕ
+cornerOf n greatest = byAxis n 0 1 2 + cond greatest 3 0
 
 -- ---- the two sides of a node
 

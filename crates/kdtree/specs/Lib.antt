@@ -1,7 +1,6 @@
 pub mod Geometry
 pub mod Tree
 pub mod Search
-pub mod Packed
 pub mod Unpruned
 pub mod Insert
 pub mod Nearest

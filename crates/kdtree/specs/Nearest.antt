@@ -18,12 +18,19 @@ use Rattle.kdtree.specs.Search.{search}
 use Rattle.kdtree.specs.Insert.{Lists}
 
 -- the search begins with the root as best, and no visit yet
-unfoldable pub startOf : List Float → Point3 → Best
-startOf positions q = record { place = 0; dist = distSq (pointAt positions 0) q; visits = 0 }
+unfoldable pub startAt : List Float → ℕ → Point3 → Best
+startAt positions root q = record { place = root; dist = distSq (pointAt positions root) q; visits = 0 }
 
--- the place found, among count places
-unfoldable pub placeOf : List Float → List ℕ → List ℕ → ℕ → BoundingBox → Point3 → Searched
-placeOf positions left right c b q = search c q (subtree left right positions c c 0) b 0 (startOf positions q)
+-- the place found below a root, among count places
+unfoldable pub foundFrom : List Float → List ℕ → List ℕ → ℕ → ℕ → BoundingBox → Point3 → Searched
+foundFrom positions left right c root b q = search c q (subtree left right positions c c root) b 0 (startAt positions root q)
+
+-- the root of a tree that inserts filled is place 0
+abbrev pub startOf : List Float → Point3 → Best
+startOf positions q = startAt positions 0 q
+
+abbrev pub placeOf : List Float → List ℕ → List ℕ → ℕ → BoundingBox → Point3 → Searched
+placeOf positions left right c b q = foundFrom positions left right c 0 b q
 
 -- no list is shorter than the count asks, and at most 16384 are in
 abbrev pub lengthsFor : ℕ → ℕ → ℕ → ℕ → ℕ → Bool

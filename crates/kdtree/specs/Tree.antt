@@ -1,6 +1,6 @@
 -- The tree that the links draw.
 use Prim.Native.Nat.{ℕ, zero, suc}
-use mathlib.Core.Bool.{Bool, true, false, cond}
+use mathlib.Core.Bool.{cond}
 use mathlib.Core.List.{List}
 use lib.ListN.{getD}
 use lib.Dec.{eqb, ltb}
@@ -19,12 +19,6 @@ pub data Tree : Type 0 where
 -- what the link l of the owner o says among count places: absent, or good when above its owner and below the count
 unfoldable pub linkOf : ℕ → ℕ → ℕ → Link
 linkOf count o l = cond (eqb l 65535) Gone (cond (ltb o l) (cond (ltb l count) (To l) Bad) Bad)
-
--- a link that a search may follow or pass over
-unfoldable pub followed : Link → Bool
-followed Gone = true
-followed (To n) = true
-followed Bad = false
 
 unfoldable pub sideOf : Link → Tree → Tree
 sideOf Gone t = gone

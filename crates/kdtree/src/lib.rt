@@ -9,17 +9,16 @@
 use points::Point3;
 ghost use mathlib.Core.Path.{_≡_};
 ghost use mathlib.Core.Bool.{cond};
-ghost use Prim.Native.Nat.{ℕ, _+_, _-_, _*_, _%_, _<_, _≤_};
-ghost use lib.ListN.{length, getD, set};
-ghost use Rattle.kdtree.specs.Geometry.{coordOf, nextAxis, Firm, outside, boxDistSq, boxAt, lower, upper, grown, goesLeft, leftFirst};
-ghost use Rattle.kdtree.specs.Tree.{linkOf, followed, subtree};
-ghost use Rattle.kdtree.specs.Search.{search, improve};
-ghost use Rattle.kdtree.specs.Packed.{bestIn, NoNan, begunWith, withDist, searchedIn, boxIn, offSide};
+ghost use Prim.Native.Nat.{ℕ, _+_, _-_, _*_, _<_, _≤_};
+ghost use lib.ListN.{length};
+ghost use Rattle.kdtree.specs.Geometry.{coordOf, nextAxis, Firm, outside, boxDistSq, boxAt, lower, upper, grown, minAt, maxAt, cornerOf, withMin, withMax, goesLeft};
+ghost use Rattle.kdtree.specs.Tree.{linkOf, subtree};
+ghost use Rattle.kdtree.specs.Search.{search, improve, visited, nearerBox, fartherBox, facing};
 ghost use Rattle.points.specs.Points.{pointAt, distSq};
 ghost use Rattle.floats.specs.Floats.{zero32};
-ghost use lib.Ieee.{binary32, nan, sub, le, ofBits};
+ghost use lib.Ieee.{binary32, sub, lt, le};
 ghost use Rattle.kdtree.specs.Insert.{listsOf, storedAs, slotIn, written, roomFor, insertOf};
-ghost use Rattle.kdtree.specs.Nearest.{placeOf, lengthsFor, nearestOf};
+ghost use Rattle.kdtree.specs.Nearest.{foundFrom, lengthsFor, nearestOf};
 
 // ---- coordinates and distances
 
@@ -80,6 +79,21 @@ fn most(m: f32, v: f32) -> f32
     if v > m { v } else { m }
 }
 
+// A selection: nothing jumps.
+fn choose(first: bool, a: f32, b: f32) -> f32
+    ensures { λ r. ⌜ r ≡ cond first a b ⌝ }
+{
+    if first { a } else { b }
+}
+
+// Which corner coordinate the plane of a node replaces, from 0 to 5: the least x, y, z, then the greatest.
+fn corner(axis: u8, left: bool) -> u32
+    ensures { λ r. ⌜ r ≡ cornerOf axis left ⌝ }
+{
+    let low = if axis < 2 { axis as u32 } else { 2 };
+    if left { low + 3 } else { low }
+}
+
 impl BoundingBox {
     pub fn new(p: Point3) -> Self
         ensures { λ r. ⌜ r ≡ boxAt p ⌝ }
@@ -106,6 +120,77 @@ impl BoundingBox {
             max_z: most(self.max_z, p.z),
         }
     }
+
+    pub fn min_at(self, axis: u8) -> f32
+        ensures { λ r. ⌜ r ≡ minAt self axis ⌝ }
+    {
+        match axis {
+            0 => self.min_x,
+            1 => self.min_y,
+            _ => self.min_z,
+        }
+    }
+
+    pub fn max_at(self, axis: u8) -> f32
+        ensures { λ r. ⌜ r ≡ maxAt self axis ⌝ }
+    {
+        match axis {
+            0 => self.max_x,
+            1 => self.max_y,
+            _ => self.max_z,
+        }
+    }
+
+    // The box of a node's left or right side, v being the node's coordinate on the axis: one corner coordinate is replaced, the
+    // greatest or the least. Which one is selected and not jumped to: no processor guesses it.
+    fn side(self, axis: u8, v: f32, left: bool) -> Self
+        ensures { λ r. ⌜ r ≡ cond left (withMax self axis v) (withMin self axis v) ⌝ }
+    {
+        let k = corner(axis, left);
+        BoundingBox {
+            min_x: choose(k == 0, v, self.min_x),
+            min_y: choose(k == 1, v, self.min_y),
+            min_z: choose(k == 2, v, self.min_z),
+            max_x: choose(k == 3, v, self.max_x),
+            max_y: choose(k == 4, v, self.max_y),
+            max_z: choose(k == 5, v, self.max_z),
+        }
+    }
+
+    // One lower corner coordinate replaced.
+    pub fn with_min(self, axis: u8, v: f32) -> Self
+        ensures { λ r. ⌜ r ≡ withMin self axis v ⌝ }
+    {
+        self.side(axis, v, false)
+    }
+
+    // One upper corner coordinate replaced.
+    pub fn with_max(self, axis: u8, v: f32) -> Self
+        ensures { λ r. ⌜ r ≡ withMax self axis v ⌝ }
+    {
+        self.side(axis, v, true)
+    }
+
+    // The squared distance from a point to the box: +0 inside.
+    fn dist_sq(self, q: Point3) -> f32
+        ensures { λ r. ⌜ r ≡ boxDistSq self q ⌝ }
+    {
+        let x = beyond(0.0, self.min_x, self.max_x, q.x);
+        let y = beyond(x, self.min_y, self.max_y, q.y);
+        beyond(y, self.min_z, self.max_z, q.z)
+    }
+}
+
+fn nearer_box(rect: BoundingBox, axis: u8, v: f32, go_left: bool) -> BoundingBox
+    ensures { λ r. ⌜ r ≡ nearerBox «go_left» rect axis v ⌝ }
+{
+    rect.side(axis, v, go_left)
+}
+
+fn farther_box(rect: BoundingBox, axis: u8, v: f32, go_left: bool) -> BoundingBox
+    ensures { λ r. ⌜ r ≡ fartherBox «go_left» rect axis v ⌝ }
+{
+    rect.side(axis, v, !go_left)
 }
 
 // ---- links
@@ -134,20 +219,11 @@ pub fn link_of(count: usize, owner: usize, l: u16) -> Link
     Link::Bad
 }
 
-// Absent or good.
-fn may_follow(count: usize, owner: usize, l: u16) -> bool
-    ensures { λ r. ⌜ r ≡ followed (linkOf count owner l) ⌝ }
+// The link of the one side or of the other.
+pub fn either(first: bool, a: u16, b: u16) -> u16
+    ensures { λ r. ⌜ r ≡ cond first a b ⌝ }
 {
-    let n = l as usize;
-    (l == 65535) | ((owner < n) & (n < count))
-}
-
-// The link at n of the one list or of the other.
-fn pick(first: bool, a: &[u16], b: &[u16], n: usize) -> u16
-    requires { ⌜ (n < length (now a)) × (n < length (now b)) ⌝ }
-    ensures { λ r. ⌜ r ≡ cond first (getD (now (a .entry)) n 0) (getD (now (b .entry)) n 0) ⌝ }
-{
-    if first { a[n] } else { b[n] }
+    if first { a } else { b }
 }
 
 // ---- the search
@@ -165,121 +241,40 @@ pub enum Searched {
     Stopped,
 }
 
-const STOPPED: u64 = 65535;
-
-// A best in one number (`bestIn`, specs/Packed.antt), so that a level hands it on in a register and not through memory: the distance's
-// pattern, the place, the visits. 65535 visits say that the search stopped (`searchedIn`).
-fn packed(bits: u32, place: u16, visits: u16) -> u64
-    ensures { λ r. ⌜ r ≡ (bits * 65536 + place) * 65536 + visits ⌝ }
+// The query stands in an array: a level of the search keeps one address of it, and reads a coordinate by the axis.
+fn query_point(q: &[f32; 3]) -> Point3
+    ensures { λ r. ⌜ r ≡ pointAt (now (q .entry)) 0 ⌝ }
 {
-    (bits as u64 * 65536 + place as u64) * 65536 + visits as u64
-}
-
-// The distance is never NaN here, whose pattern from_bits would not take.
-fn dist_in(best: u64) -> f32
-    requires { ⌜ NoNan best ⌝ }
-    ensures { λ r. ⌜ r ≡ bestIn best .dist ⌝ }
-{
-    f32::from_bits((best / 4294967296) as u32)
-}
-
-fn visits_in(best: u64) -> u16
-    ensures { λ r. ⌜ r ≡ bestIn best .visits ⌝ }
-{
-    (best % 65536) as u16
-}
-
-fn searched_in(best: u64) -> Searched
-    requires { ⌜ NoNan best ⌝ }
-    ensures { λ r. ⌜ r ≡ searchedIn best ⌝ }
-{
-    let visits = visits_in(best);
-    if visits == 65535 {
-        return Searched::Stopped;
+    Point3 {
+        x: q[0],
+        y: q[1],
+        z: q[2],
     }
-    Searched::Found(Best {
-        dist: dist_in(best),
-        place: (best / 65536 % 65536) as u16,
-        visits,
-    })
 }
 
-// The space of a search, nine numbers: the box's least corner, its greatest corner, the query.
-//
-// One of them replaced: what stood there.
-fn put(space: &mut [f32; 9], at: usize, v: f32) -> f32
-    requires { ⌜ at < 9 ⌝ }
-    ensures { λ r. ⌜ (r ≡ getD (now (space .entry)) at nan) × (now (space .exit) ≡ set (now (space .entry)) at v) ⌝ }
-{
-    let was = space[at];
-    space[at] = v;
-    was
-}
-
-// From the query to the box: +0 inside.
-fn to_box(space: &[f32; 9]) -> f32
-    ensures { λ r. ⌜ r ≡ boxDistSq (boxIn (now (space .entry))) (pointAt (now (space .entry)) 2) ⌝ }
-{
-    let x = beyond(0.0, space[0], space[3], space[6]);
-    let y = beyond(x, space[1], space[4], space[7]);
-    beyond(y, space[2], space[5], space[8])
-}
-
-// From the query to the box with one corner coordinate replaced, for the side that a link leads to: an absent side is farther than anything.
-fn to_side(space: &mut [f32; 9], at: usize, v: f32, l: u16) -> f32
-    requires { ⌜ at < 6 ⌝ }
-    ensures { λ r. ⌜ (r ≡ offSide l (boxDistSq (boxIn (set (now (space .entry)) at v)) (pointAt (now (space .entry)) 2))) × (now (space .exit) ≡ now (space .entry)) ⌝ }
-{
-    let was = put(space, at, v);
-    let d = to_box(space);
-    space[at] = was;
-    let none = 1.0 / 0.0;
-    if l == 65535 { none } else { d }
-}
-
-// One coordinate of the query, by the axis.
-fn query_coord(space: &[f32; 9], axis: usize) -> f32
+fn query_coord(q: &[f32; 3], axis: u8) -> f32
     requires { ⌜ axis < 3 ⌝ }
-    ensures { λ r. ⌜ r ≡ coordOf (pointAt (now (space .entry)) 2) axis ⌝ }
+    ensures { λ r. ⌜ r ≡ coordOf (pointAt (now (q .entry)) 0) axis ⌝ }
 {
-    let at = 6 + axis;
-    space[at]
+    let at = axis as usize;
+    q[at]
 }
 
 // One coordinate of a place, by the axis.
-pub fn place_coord(xs: &&[f32], place: usize, axis: usize) -> f32
+fn place_coord(xs: &&[f32], place: usize, axis: u8) -> f32
     requires { ⌜ (axis < 3) × (place < 16384) × (3 * place + 2 < length (now (now xs))) ⌝ }
     ensures { λ r. ⌜ r ≡ coordOf (pointAt (now (now (xs .entry))) place) axis ⌝ }
 {
-    let at = 3 * place + axis;
+    let at = 3 * place + axis as usize;
     xs[at]
 }
 
 // From a place to the query.
-fn dist_at(xs: &&[f32], place: usize, space: &[f32; 9]) -> f32
+fn dist_at(xs: &&[f32], place: usize, q: &[f32; 3]) -> f32
     requires { ⌜ 3 * place + 2 < length (now (now xs)) ⌝ }
-    ensures { λ r. ⌜ r ≡ distSq (pointAt (now (now (xs .entry))) place) (pointAt (now (space .entry)) 2) ⌝ }
+    ensures { λ r. ⌜ r ≡ distSq (pointAt (now (now (xs .entry))) place) (pointAt (now (q .entry)) 0) ⌝ }
 {
-    let q = Point3 {
-        x: space[6],
-        y: space[7],
-        z: space[8],
-    };
-    points::dist_sq(points::point_at(*xs, place), q)
-}
-
-// The axis below: the depth mod 3.
-pub fn turned(axis: usize) -> usize
-    requires { ⌜ axis < 3 ⌝ }
-    ensures { λ r. ⌜ r ≡ nextAxis axis ⌝ }
-{
-    if axis == 2 { 0 } else { axis + 1 }
-}
-
-pub fn which(first: bool, a: usize, b: usize) -> usize
-    ensures { λ r. ⌜ r ≡ cond first a b ⌝ }
-{
-    if first { a } else { b }
+    points::dist_sq(points::point_at(*xs, place), query_point(q))
 }
 
 // Query minus node, on the node's axis.
@@ -289,140 +284,152 @@ fn left_first(q: f32, v: f32) -> bool
     q - v <= 0.0
 }
 
-pub fn either(first: bool, a: u16, b: u16) -> u16
-    ensures { λ r. ⌜ r ≡ cond first a b ⌝ }
+fn visited(best: Best) -> Best
+    requires { ⌜ best .visits < 65535 ⌝ }
+    ensures { λ r. ⌜ r ≡ visited best ⌝ }
 {
-    if first { a } else { b }
+    Best {
+        dist: best.dist,
+        place: best.place,
+        visits: best.visits + 1,
+    }
 }
 
 // The node wins only if it is strictly nearer.
-fn better(n: u16, d: f32, best: u64) -> u64
-    requires { ⌜ NoNan best ⌝ }
-    ensures { λ r. ⌜ (bestIn r ≡ improve n d (bestIn best)) × NoNan r ⌝ }
+fn better(n: u16, d: f32, best: Best) -> Best
+    ensures { λ r. ⌜ r ≡ improve n d best ⌝ }
 {
-    if d < dist_in(best) {
-        packed(f32::to_bits(d), n, visits_in(best))
+    if d < best.dist {
+        Best {
+            dist: d,
+            place: n,
+            visits: best.visits,
+        }
     } else {
         best
     }
 }
 
+// The query, x on the node's axis, is on the nearer side of the node's plane, and not below the box.
+fn faces(left_first: bool, x: f32, v: f32, least: f32) -> bool
+    ensures { λ r. ⌜ r ≡ facing «left_first» x v least ⌝ }
+{
+    let above = (v < x) & !(x < least);
+    if left_first { x < v } else { above }
+}
+
+// The farther side's box is strictly nearer than the best. Mostly the plane between the sides alone says no, and no box is made: the
+// square of the query's distance to it is then one of the terms of the box's distance, and a sum of squares rounds to no less
+// (proofs/Plane.antt).
+fn far_is_nearer(
+    rect: BoundingBox,
+    axis: u8,
+    v: f32,
+    go_left: bool,
+    q: &[f32; 3],
+    dist: f32,
+) -> bool
+    requires { ⌜ axis < 3 ⌝ }
+    ensures { λ r. ⌜ r ≡ lt (boxDistSq (fartherBox «go_left» rect axis v) (pointAt (now (q .entry)) 0)) dist ⌝ }
+{
+    let x = query_coord(q, axis);
+    let to_plane = v - x;
+    if (dist <= to_plane * to_plane) & faces(go_left, x, v, rect.min_at(axis)) {
+        return false;
+    }
+    let far = farther_box(rect, axis, v, go_left);
+    far.dist_sq(query_point(q)) < dist
+}
+
 // Nearer side, node, farther side.
 //
-// All levels share one array of the box and the query, and the lists stand behind one address each, so that a level hands on few words: it writes
-// the one corner that differs, and puts the old value back. Both links are read and tested, and all that needs no best is worked out, before the
-// nearer side (a bad link on either side stops the search there or later alike), so that after it one comparison decides: an absent farther side
-// is infinitely far.
+// Lists stand behind one address each, so that a level hands on few words. Both links are read before the side is known, so that the
+// next node need not wait for a second read, and a node without sides is done at once. An answer of the farther side leaves by a way of its
+// own (`last`): one that is put together from its parts in memory and read at once as a whole is slow.
 fn nearest_rec(
     xs: &&[f32],
     left: &&[u16],
     right: &&[u16],
     m: usize,
-    space: &mut [f32; 9],
+    q: &[f32; 3],
+    rect: BoundingBox,
     node: usize,
-    axis: usize,
-    best: u64,
-) -> u64
-    requires { ⌜ (node < m) × (3 * m ≤ length (now (now xs))) × (m ≤ length (now (now left))) × (m ≤ length (now (now right))) × (m ≤ 16384) × (axis < 3) × (length (now space) ≡ 9) × NoNan best ⌝ }
-    ensures answer { λ r. ⌜ ((f : ℕ) → m - node ≤ f
-        → searchedIn r ≡ search m (pointAt (now (space .entry)) 2) (subtree (now (now (left .entry))) (now (now (right .entry))) (now (now (xs .entry))) m f node) (boxIn (now (space .entry))) axis (bestIn best)) ⌝ }
-    ensures kept { λ r. ⌜ now (space .exit) ≡ now (space .entry) ⌝ }
-    ensures number { λ r. ⌜ NoNan r ⌝ }
+    axis: u8,
+    best: Best,
+) -> Searched
+    requires { ⌜ (node < m) × (3 * m ≤ length (now (now xs))) × (m ≤ length (now (now left))) × (m ≤ length (now (now right))) × (m ≤ 16384) × (axis < 3) ⌝ }
+    ensures { λ r. ⌜ ((f : ℕ) → m - node ≤ f
+        → r ≡ search m (pointAt (now (q .entry)) 0) (subtree (now (now (left .entry))) (now (now (right .entry))) (now (now (xs .entry))) m f node) rect axis best) ⌝ }
 {
-    if m <= visits_in(best) as usize {
-        return STOPPED;
+    if m <= best.visits as usize {
+        return Searched::Stopped;
     }
     let l = left[node];
     let r = right[node];
-    let d = dist_at(xs, node, space);
-    let seen = best + 1;
+    let d = dist_at(xs, node, q);
+    let seen = visited(best);
     if (l == 65535) & (r == 65535) {
-        return better(node as u16, d, seen);
-    }
-    if !(may_follow(m, node, l) & may_follow(m, node, r)) {
-        return STOPPED;
+        return Searched::Found(better(node as u16, d, seen));
     }
     let v = place_coord(xs, node, axis);
-    let go_left = left_first(query_coord(space, axis), v);
-    let near = either(go_left, l, r);
-    let far = either(go_left, r, l);
-    let i = which(go_left, axis + 3, axis);
-    let j = which(go_left, axis, axis + 3);
-    let to_far = to_side(space, j, v, far);
-    let next = turned(axis);
-    let mut t = seen;
-    if near != 65535 {
-        let was = put(space, i, v);
-        t = nearest_rec(xs, left, right, m, space, near as usize, next, seen);
-        space[i] = was;
-    }
-    if visits_in(t) == 65535 {
-        return STOPPED;
-    }
+    let go_left = left_first(query_coord(q, axis), v);
+    let next = next_axis(axis);
+    let after = match link_of(m, node, either(go_left, l, r)) {
+        Link::Gone => Searched::Found(seen),
+        Link::To(n) => {
+            let near = nearer_box(rect, axis, v, go_left);
+            nearest_rec(xs, left, right, m, q, near, n, next, seen)
+        }
+        Link::Bad => Searched::Stopped,
+    };
+    let Searched::Found(t) = after else {
+        return Searched::Stopped;
+    };
     let b = better(node as u16, d, t);
-    if to_far < dist_in(b) {
-        let was = put(space, j, v);
-        let last = nearest_rec(xs, left, right, m, space, far as usize, next, b);
-        space[j] = was;
-        return last;
-    }
-    b
-}
-
-// The pattern that a search begins with: that of -infinity for NaN. Nothing is less than the one or the other, so the search is the same.
-fn first_bits(start: f32) -> u32
-    ensures { λ r. ⌜ (r % 2147483648 ≤ 2139095040) × (ofBits binary32 r ≡ begunWith start) ⌝ }
-{
-    if start != start {
-        return 0xff80_0000;
-    }
-    f32::to_bits(start)
-}
-
-fn with_dist(s: Searched, d: f32) -> Searched
-    ensures { λ r. ⌜ r ≡ withDist d s ⌝ }
-{
-    match s {
-        Searched::Found(b) => Searched::Found(Best {
-            dist: d,
-            place: b.place,
-            visits: b.visits,
-        }),
-        Searched::Stopped => Searched::Stopped,
+    match link_of(m, node, either(go_left, r, l)) {
+        Link::Gone => return Searched::Found(b),
+        Link::Bad => return Searched::Stopped,
+        Link::To(n) => {
+            if far_is_nearer(rect, axis, v, go_left, q, b.dist) {
+                let far = farther_box(rect, axis, v, go_left);
+                let last = nearest_rec(xs, left, right, m, q, far, n, next, b);
+                return last;
+            }
+            return Searched::Found(b);
+        }
     }
 }
 
-// The place nearest to the query: the search begins with the root as best.
+// The place nearest to the query, among those below the root: the search begins with the root as best.
 pub fn nearest_place(
     count: usize,
+    root: usize,
     bounds: BoundingBox,
     positions: &[f32],
     left: &[u16],
     right: &[u16],
     q: Point3,
 ) -> Searched
-    requires { ⌜ (0 < count) × (3 * count ≤ length (now positions)) × (count ≤ length (now left)) × (count ≤ length (now right)) × (count ≤ 16384) ⌝ }
-    ensures { λ r. ⌜ r ≡ placeOf (now (positions .entry)) (now (left .entry)) (now (right .entry)) count bounds q ⌝ }
+    requires { ⌜ (root < count) × (3 * count ≤ length (now positions)) × (count ≤ length (now left)) × (count ≤ length (now right)) × (count ≤ 16384) ⌝ }
+    ensures { λ r. ⌜ r ≡ foundFrom (now (positions .entry)) (now (left .entry)) (now (right .entry)) count root bounds q ⌝ }
 {
-    let root = points::point_at(positions, 0);
-    let start = points::dist_sq(root, q);
-    let mut space = [
-        bounds.min_x,
-        bounds.min_y,
-        bounds.min_z,
-        bounds.max_x,
-        bounds.max_y,
-        bounds.max_z,
-        q.x,
-        q.y,
-        q.z,
-    ];
-    let begun = packed(first_bits(start), 0, 0);
-    let found = searched_in(nearest_rec(&positions, &left, &right, count, &mut space, 0, 0, begun));
-    if start != start {
-        return with_dist(found, start);
-    }
-    found
+    let start = Best {
+        dist: points::dist_sq(points::point_at(positions, root), q),
+        place: root as u16,
+        visits: 0,
+    };
+    let at = [q.x, q.y, q.z];
+    nearest_rec(
+        &positions,
+        &left,
+        &right,
+        count,
+        &at,
+        bounds,
+        root,
+        0,
+        start,
+    )
 }
 
 pub enum Named {
@@ -466,7 +473,7 @@ pub fn nearest(
     if count == 0 {
         return Named::Nothing;
     }
-    let searched = nearest_place(count, bounds, positions, left, right, q);
+    let searched = nearest_place(count, 0, bounds, positions, left, right, q);
     let Searched::Found(best) = searched else {
         return Named::Refused(9, 0);
     };
@@ -506,8 +513,9 @@ pub fn insert_rec(
     let x = points::point_at(positions, node);
     let less = goes_left(p, x, axis);
     let next = next_axis(axis);
-    let l = pick(less, left, right, node);
-    match link_of(count, node, l) {
+    let l = left[node];
+    let r = right[node];
+    match link_of(count, node, either(less, l, r)) {
         Link::Gone => {
             if less {
                 Slot::Left(node)

@@ -1,11 +1,8 @@
-use Rattle.kdtree.proofs.Step.{at-axis}
+use Rattle.kdtree.proofs.Step.{first-axis}
 use native.Mathlib.Omega.{arith}
 use borrow.Author.Needs.{needs}
 use Rattle.kdtree.proofs.query_coord.Statement.{statement}
 use Rattle.kdtree.proofs.query_coord.Tie as tie
-
-add-at : tie.Need-add-at
-add-at c = search needs
 
 mul-result : tie.Need-mul-result
 mul-result c = search needs
@@ -14,7 +11,7 @@ element-copy-out-result : tie.Need-element-copy-out-result
 element-copy-out-result c = search needs
 
 returns : tie.Need-returns
-returns c = at-axis _ 2 _ (omega arith)
+returns c = first-axis _ _ (omega arith)
 
 pub query-coord-spec : {M : Type 1} → statement M
-query-coord-spec = tie.close (tie.spec add-at mul-result element-copy-out-result returns)
+query-coord-spec = tie.close (tie.spec mul-result element-copy-out-result returns)
