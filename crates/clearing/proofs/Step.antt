@@ -6,6 +6,7 @@ use mathlib.Core.List.{List, [], _∷_}
 use mathlib.Core.Logic.{⊎-elim}
 use Prim.Native.Nat.{ℕ, zero, suc, _-_, _<_, _≤_}
 use native.Mathlib.Omega.{arith}
+use lib.ListN.{getD}
 use lib.Ieee.{Float, lt}
 use types.Run.{OneOf}
 use denote.Enum.Declared.{tagOf}
@@ -31,11 +32,12 @@ module _ (left right : List ℕ) (xs : List Float) (m own : ℕ) (p : Point3) wh
   abbrev side : ℕ → ℕ → ℕ → Tree
   side k n l = sideOf (linkOf m n l) (T k l)
 
-  abbrev near : Bool → ℕ → ℕ
-  near = links.near left right xs m
+  -- the link to the side that p is on, which is the left or not, and the other
+  abbrev pub near : Bool → ℕ → ℕ
+  near g n = cond g (getD left n 0) (getD right n 0)
 
-  abbrev far : Bool → ℕ → ℕ
-  far = links.far left right xs m
+  abbrev pub far : Bool → ℕ → ℕ
+  far g n = cond g (getD right n 0) (getD left n 0)
 
   -- the code's answer r at the node n, for every fuel that suffices
   abbrev pub After : ℕ → ℕ → Clearing → Clearing → Type 0
@@ -79,6 +81,7 @@ module _ (left right : List ℕ) (xs : List Float) (m own : ℕ) (p : Point3) wh
   module _ (n axis : ℕ) (b : Clearing) where
     -- what the code knows past its nearer side
     pub record Here : Type 0 where
+      pub own-point : Point3
       pub x : Point3
       pub v : Float
       pub w : Float
@@ -86,11 +89,12 @@ module _ (left right : List ℕ) (xs : List Float) (m own : ℕ) (p : Point3) wh
       pub here : Clearing
       pub c : Clearing
       pub below : n < m
+      pub ep : own-point ≡ p
       pub ex : x ≡ pointAt xs n
       pub ev : v ≡ coordOf x axis
-      pub ew : w ≡ coordOf p axis
+      pub ew : w ≡ coordOf own-point axis
       pub en : nx ≡ nextAxis axis
-      pub eh : here ≡ met own p n x b
+      pub eh : here ≡ met own own-point n x b
       pub ec : Side n (near (lt w v) n) nx here c
 
     module _ (h : Here) where

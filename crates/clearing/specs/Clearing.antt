@@ -10,9 +10,9 @@ use Rattle.points.specs.declared.Point3.{Point3}
 use Rattle.points.specs.Points.{gap, pointAt, distSq}
 use Rattle.kdtree.specs.declared.BoundingBox.{BoundingBox}
 use Rattle.kdtree.specs.Geometry.{byAxis, coordOf, nextAxis, boxAt, withMin, withMax}
-use Rattle.kdtree.specs.Packed.{boxIn}
 use Rattle.kdtree.specs.Tree.{Tree, gone, bad, node}
 use Rattle.clearing.specs.declared.Clearing.{Clearing}
+use Rattle.clearing.specs.declared.Kept.{Kept}
 use Rattle.clearing.specs.declared.Nearest.{Nearest}
 
 -- ---- open boxes
@@ -62,9 +62,9 @@ listed c n = record { faces = c .faces; count = c .count + 1; places = set (c .p
 unfoldable pub faced : Clearing → BoundingBox → Clearing
 faced c b = record { faces = b; count = c .count; places = c .places }
 
--- the clearing of a walk: its faces in six numbers, how many places are listed, and the places
-abbrev pub heldIn : List Float → ℕ → List ℕ → Clearing
-heldIn f n l = record { faces = boxIn f; count = n; places = l }
+-- the clearing of a walk: what its levels hand on, and the places that are lent to them
+abbrev pub heldIn : Kept → List ℕ → Clearing
+heldIn k l = record { faces = k .faces; count = k .count; places = l }
 
 -- p and as far as w from it on each axis, and no place yet
 unfoldable pub around : Point3 → Float → Clearing

@@ -1,8 +1,13 @@
-// A clearing around a measurement: an open box, and the places of all others that stand in it. A query that is nearer to one of them,
-// or to the measurement, than to every face of the box needs no search: the nearest of these is the nearest of all.
+// A clearing around a measurement: an open box around it, and the places of all others that stand in that box, up to 24. What is not
+// listed stands outside, so no nearer to a query in the box than a face is. A query that is nearer to one of those listed, or to the
+// measurement, than to every face has its nearest among them, and needs no search.
 //
-// `clear` promises the clearing (`cleared`, specs/Clearing.antt), `nearest_in` the nearest of its places (`nearestIn`), `alone` the test
-// (`aloneIn`), for any lists and any f32. The crate `clearing_laws` has what they mean over links that were built.
+// The definition of the neighbour table knows no clearing: it searches at every step (`neighbors` specs/Neighbors.antt). The code may
+// leave a search out since its answer is then the same: `alone-found`, `clearing_laws` proofs/Alone.antt, over links that were built
+// and for any f32, which `neighbors` cites in proofs/Around.antt.
+//
+// `clear` promises the clearing (`clearingOf`, specs/Clearing.antt), `nearest_in` the nearest of those listed (`nearestIn`), `alone` the
+// test (`aloneIn`), `reach_after` how far the next looks (`reachAfter`): for any lists and any f32, whether the links were built or not.
 use kdtree::BoundingBox;
 use kdtree::Link;
 use points::Point3;
@@ -12,9 +17,8 @@ ghost use Prim.Native.Nat.{ℕ, _+_, _-_, _*_, _<_, _≤_};
 ghost use lib.Dec.{ltb};
 ghost use lib.ListN.{length};
 ghost use Rattle.kdtree.specs.Tree.{subtree};
-ghost use Rattle.kdtree.specs.Packed.{boxIn};
 ghost use Rattle.points.specs.Points.{pointAt, distSq};
-ghost use Rattle.clearing.specs.Clearing.{between, holds, farAxis, drawnIn, heldIn, met, reaches, cleared, none, clearingOf, reachAfter, nearerThanFaces, aloneIn, nearer, entries, nearestIn};
+ghost use Rattle.clearing.specs.Clearing.{minAt, maxAt, between, holds, farAxis, drawnIn, heldIn, met, reaches, cleared, none, clearingOf, reachAfter, nearerThanFaces, aloneIn, nearer, entries, nearestIn};
 
 const MOST: usize = 24;
 
@@ -25,18 +29,43 @@ pub struct Clearing {
     pub places: [u16; 24],
 }
 
+// What the levels of a walk hand on and answer: the faces so far, and how many places are listed. The places stand in one lent array.
+struct Kept {
+    faces: BoundingBox,
+    count: usize,
+}
+
+fn min_at(b: BoundingBox, axis: u8) -> f32
+    ensures { λ r. ⌜ r ≡ minAt b axis ⌝ }
+{
+    match axis {
+        0 => b.min_x,
+        1 => b.min_y,
+        _ => b.min_z,
+    }
+}
+
+fn max_at(b: BoundingBox, axis: u8) -> f32
+    ensures { λ r. ⌜ r ≡ maxAt b axis ⌝ }
+{
+    match axis {
+        0 => b.max_x,
+        1 => b.max_y,
+        _ => b.max_z,
+    }
+}
+
 fn is_between(lo: f32, hi: f32, x: f32) -> bool
     ensures { λ r. ⌜ r ≡ between lo hi x ⌝ }
 {
     (lo < x) & (x < hi)
 }
 
-// The faces of a walk stand in an array that all its levels share, the three least first (`boxIn` of kdtree).
-fn has_inside(faces: &[f32; 6], x: Point3) -> bool
-    ensures { λ r. ⌜ r ≡ holds (boxIn (now (faces .entry))) x ⌝ }
+fn has_inside(b: BoundingBox, x: Point3) -> bool
+    ensures { λ r. ⌜ r ≡ holds b x ⌝ }
 {
-    is_between(faces[0], faces[3], x.x)
-        & (is_between(faces[1], faces[4], x.y) & is_between(faces[2], faces[5], x.z))
+    is_between(b.min_x, b.max_x, x.x)
+        & (is_between(b.min_y, b.max_y, x.y) & is_between(b.min_z, b.max_z, x.z))
 }
 
 // The axis on which x is farthest from p: a face there costs the box least.
@@ -56,53 +85,50 @@ fn far_axis(p: Point3, x: Point3) -> u8
 }
 
 // The face on that side of p goes to x.
-fn draw_in(faces: &mut [f32; 6], p: Point3, x: Point3)
-    requires { ⌜ length (now faces) ≡ 6 ⌝ }
-    ensures { λ _. ⌜ (boxIn (now (faces .exit)) ≡ drawnIn (boxIn (now (faces .entry))) p x) × (length (now (faces .exit)) ≡ 6) ⌝ }
+fn drawn_in(b: BoundingBox, p: Point3, x: Point3) -> BoundingBox
+    ensures { λ r. ⌜ r ≡ drawnIn b p x ⌝ }
 {
     let axis = far_axis(p, x);
     let v = kdtree::coord(x, axis);
-    let low = axis as usize;
-    let at = kdtree::which(v < kdtree::coord(p, axis), low, low + 3);
-    faces[at] = v;
+    if v < kdtree::coord(p, axis) {
+        b.with_min(axis, v)
+    } else {
+        b.with_max(axis, v)
+    }
 }
 
-// A point other than its own that the box holds is listed, or where there is no room is put out of the box: how many are listed then.
-fn meet(
-    xs: &&[f32],
-    own: usize,
-    n: usize,
-    faces: &mut [f32; 6],
-    places: &mut [u16; 24],
-    count: usize,
-) -> usize
-    requires { ⌜ (n < 16384) × (3 * n + 2 < length (now (now xs))) × (3 * own + 2 < length (now (now xs))) × (length (now faces) ≡ 6) ⌝ }
-    ensures { λ r. ⌜ (heldIn (now (faces .exit)) r (now (places .exit))
-        ≡ met own (pointAt (now (now (xs .entry))) own) n (pointAt (now (now (xs .entry))) n) (heldIn (now (faces .entry)) count (now (places .entry))))
-        × (length (now (faces .exit)) ≡ 6) ⌝ }
+// A point other than its own that the box holds is listed, or where there is no room is put out of the box.
+fn meet(own: usize, p: Point3, n: usize, x: Point3, places: &mut [u16; 24], kept: Kept) -> Kept
+    requires { ⌜ n < 16384 ⌝ }
+    ensures { λ r. ⌜ heldIn r (now (places .exit)) ≡ met own p n x (heldIn kept (now (places .entry))) ⌝ }
 {
-    let x = points::point_at(*xs, n);
+    let faces = kept.faces;
+    let count = kept.count;
     if (n == own) | !has_inside(faces, x) {
-        return count;
+        return kept;
     }
     if count < MOST {
         places[count] = n as u16;
-        return count + 1;
+        return Kept {
+            faces,
+            count: count + 1,
+        };
     }
-    draw_in(faces, points::point_at(*xs, own), x);
-    count
+    let drawn = drawn_in(faces, p, x);
+    Kept {
+        faces: drawn,
+        count,
+    }
 }
 
 // The box reaches past a node's coordinate, p being on its left or not.
-fn goes_past(on_left: bool, faces: &[f32; 6], axis: usize, v: f32) -> bool
-    requires { ⌜ axis < 3 ⌝ }
-    ensures { λ r. ⌜ r ≡ reaches «on_left» (boxIn (now (faces .entry))) axis v ⌝ }
+fn goes_past(on_left: bool, b: BoundingBox, axis: u8, v: f32) -> bool
+    ensures { λ r. ⌜ r ≡ reaches «on_left» b axis v ⌝ }
 {
-    let greatest = axis + 3;
     if on_left {
-        !(faces[greatest] <= v)
+        !(max_at(b, axis) <= v)
     } else {
-        faces[axis] < v
+        min_at(b, axis) < v
     }
 }
 
@@ -113,34 +139,32 @@ fn clear_rec(
     right: &&[u16],
     m: usize,
     own: usize,
-    faces: &mut [f32; 6],
     places: &mut [u16; 24],
     node: usize,
-    axis: usize,
-    count: usize,
-) -> usize
-    requires { ⌜ (node < m) × (3 * m ≤ length (now (now xs))) × (m ≤ length (now (now left))) × (m ≤ length (now (now right))) × (m ≤ 16384) × (own < m) × (axis < 3) × (length (now faces) ≡ 6) ⌝ }
-    ensures answer { λ r. ⌜ ((f : ℕ) → m - node ≤ f
-        → heldIn (now (faces .exit)) r (now (places .exit))
+    axis: u8,
+    kept: Kept,
+) -> Kept
+    requires { ⌜ (node < m) × (3 * m ≤ length (now (now xs))) × (m ≤ length (now (now left))) × (m ≤ length (now (now right))) × (m ≤ 16384) × (own < m) ⌝ }
+    ensures { λ r. ⌜ ((f : ℕ) → m - node ≤ f
+        → heldIn r (now (places .exit))
         ≡ cleared own (pointAt (now (now (xs .entry))) own) (subtree (now (now (left .entry))) (now (now (right .entry))) (now (now (xs .entry))) m f node) axis
-        (heldIn (now (faces .entry)) count (now (places .entry)))) ⌝ }
-    ensures six { λ _. ⌜ length (now (faces .exit)) ≡ 6 ⌝ }
+        (heldIn kept (now (places .entry)))) ⌝ }
 {
-    let v = kdtree::place_coord(xs, node, axis);
-    let on_left = kdtree::place_coord(xs, own, axis) < v;
-    let next = kdtree::turned(axis);
+    let p = points::point_at(*xs, own);
+    let x = points::point_at(*xs, node);
+    let v = kdtree::coord(x, axis);
+    let on_left = kdtree::coord(p, axis) < v;
+    let next = kdtree::next_axis(axis);
     let l = left[node];
     let r = right[node];
-    let here = meet(xs, own, node, faces, places, count);
+    let here = meet(own, p, node, x, places, kept);
     let near = match kdtree::link_of(m, node, kdtree::either(on_left, l, r)) {
-        Link::To(n) => clear_rec(xs, left, right, m, own, faces, places, n, next, here),
+        Link::To(n) => clear_rec(xs, left, right, m, own, places, n, next, here),
         _ => here,
     };
-    if goes_past(on_left, faces, axis, v) {
+    if goes_past(on_left, near.faces, axis, v) {
         match kdtree::link_of(m, node, kdtree::either(on_left, r, l)) {
-            Link::To(n) => {
-                return clear_rec(xs, left, right, m, own, faces, places, n, next, near);
-            }
+            Link::To(n) => return clear_rec(xs, left, right, m, own, places, n, next, near),
             _ => return near,
         }
     }
@@ -177,27 +201,24 @@ pub fn clear(
     if reach < step {
         return none(p);
     }
-    let mut faces = [
-        p.x - reach,
-        p.y - reach,
-        p.z - reach,
-        p.x + reach,
-        p.y + reach,
-        p.z + reach,
-    ];
-    let mut places = [0; 24];
-    let count = clear_rec(&xs, &left, &right, m, own, &mut faces, &mut places, 0, 0, 0);
-    let bounds = BoundingBox {
-        min_x: faces[0],
-        min_y: faces[1],
-        min_z: faces[2],
-        max_x: faces[3],
-        max_y: faces[4],
-        max_z: faces[5],
+    let around = BoundingBox {
+        min_x: p.x - reach,
+        min_y: p.y - reach,
+        min_z: p.z - reach,
+        max_x: p.x + reach,
+        max_y: p.y + reach,
+        max_z: p.z + reach,
     };
+    let start = Kept {
+        faces: around,
+        count: 0,
+    };
+    let mut places = [0; 24];
+    let kept = clear_rec(&xs, &left, &right, m, own, &mut places, 0, 0, start);
+    let faces = kept.faces;
     Clearing {
-        faces: bounds,
-        count,
+        faces,
+        count: kept.count,
         places,
     }
 }

@@ -1,16 +1,15 @@
-use borrow.Author.Needs.{needs}
 use Rattle.clearing.proofs.Choices as choices
 use Rattle.clearing.proofs.far_axis.Statement.{statement}
 use Rattle.clearing.proofs.far_axis.Tie as tie
 
 abs-requires : tie.Need-abs-requires
-abs-requires c κs = search needs
+abs-requires c κs = tt
 
 abs-requires-2 : tie.Need-abs-requires-2
-abs-requires-2 c κs = search needs
+abs-requires-2 c κs = tt
 
 abs-requires-3 : tie.Need-abs-requires-3
-abs-requires-3 c κs = search needs
+abs-requires-3 c κs = tt
 
 returns : tie.Need-returns
 returns c =

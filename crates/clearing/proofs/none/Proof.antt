@@ -1,10 +1,9 @@
-use borrow.Author.Needs.{needs}
 use Rattle.clearing.specs.Clearing.{none}
 use Rattle.clearing.proofs.none.Statement.{statement}
 use Rattle.clearing.proofs.none.Tie as tie
 
 new-requires : tie.Need-new-requires
-new-requires c κs = search needs
+new-requires c κs = tt
 
 returns : tie.Need-returns
 unfolding none

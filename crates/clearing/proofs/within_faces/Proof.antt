@@ -1,10 +1,9 @@
-use borrow.Author.Needs.{needs}
 use Rattle.clearing.specs.Clearing.{nearerThanFaces}
 use Rattle.clearing.proofs.within_faces.Statement.{statement}
 use Rattle.clearing.proofs.within_faces.Tie as tie
 
 is-between-requires : tie.Need-is-between-requires
-is-between-requires c κs = search needs
+is-between-requires c κs = tt
 
 returns : tie.Need-returns
 unfolding nearerThanFaces
