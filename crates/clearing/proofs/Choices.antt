@@ -12,7 +12,8 @@ use Rattle.points.specs.declared.Point3.{Point3}
 use Rattle.kdtree.specs.declared.BoundingBox.{BoundingBox}
 use Rattle.kdtree.specs.Geometry.{coordOf, withMin, withMax}
 use Rattle.clearing.specs.declared.Kept.{Kept}
-use Rattle.clearing.specs.Clearing.{holds, farAxis, drawnIn, listed, faced, heldIn, met}
+use Rattle.clearing.specs.declared.Nearest.{Nearest}
+use Rattle.clearing.specs.Clearing.{holds, farAxis, drawnIn, listed, faced, heldIn, met, nearer}
 
 pub far-axis-at : (p x : Point3) (a b c : Float) → a ≡ absOf (sub binary32 (x .x) (p .x)) → b ≡ absOf (sub binary32 (x .y) (p .y))
     → c ≡ absOf (sub binary32 (x .z) (p .z)) → (r : ℕ) → r ≡ cond (le b a && le c a) 0 (cond (le c b) 1 2) → r ≡ farAxis p x
@@ -43,3 +44,18 @@ module _ (own : ℕ) (p : Point3) (n : ℕ) (x : Point3) (k : Kept) (l : List �
     unfolding met faced
     met-drawn t b eb =
         ap (λ (b : BoundingBox). record { faces = b; count = k .count; places = l }) eb ∙ simp (out, le-ltb (k .count) 24 t)
+
+-- ---- a place beside the nearest so far
+
+module _ (s : Nearest) (n : ℕ) (d : Float) where
+  pub nearer-wins : lt d (s .dist) ≡ true → record { place = n; dist = d; tied = false } ≡ nearer s n d
+  unfolding nearer
+  nearer-wins e = simp e
+
+  pub nearer-ties : lt d (s .dist) ≡ false → le d (s .dist) ≡ true → record { place = s .place; dist = s .dist; tied = true } ≡ nearer s n d
+  unfolding nearer
+  nearer-ties e f = simp (e, f)
+
+  pub nearer-stays : lt d (s .dist) ≡ false → le d (s .dist) ≡ false → s ≡ nearer s n d
+  unfolding nearer
+  nearer-stays e f = simp (e, f)

@@ -1,19 +1,19 @@
-// A clearing around a measurement: an open box around it, and the places of all others that stand in that box, up to 24. What is not
-// listed stands outside, so no nearer to a query in the box than a face is. A query that is nearer to one of those listed, or to the
-// measurement, than to every face has its nearest among them, and needs no search.
+// A clearing around a measurement: an open box, and the places of all others that stand in it, up to 24; for one more the box is drawn
+// in. So whatever is not listed stands outside, no nearer to a query in the box than a face is. Where the nearest of the measurement and
+// those listed is nearer than every face, and no other of them as near, it is the nearest of all, and no search is needed.
 //
 // The definition of the neighbour table knows no clearing: it searches at every step (`neighbors` specs/Neighbors.antt). The code may
-// leave a search out since its answer is then the same: `alone-found`, `clearing_laws` proofs/Alone.antt, over links that were built
-// and for any f32, which `neighbors` cites in proofs/Around.antt.
+// leave a search out because it would find the same: `alone-found`, `clearing_laws` proofs/Alone.antt, over links that were built and
+// for any f32; `neighbors` uses it in proofs/Around.antt.
 //
-// `clear` promises the clearing (`clearingOf`, specs/Clearing.antt), `nearest_in` the nearest of those listed (`nearestIn`), `alone` the
-// test (`aloneIn`), `reach_after` how far the next looks (`reachAfter`): for any lists and any f32, whether the links were built or not.
+// `clear` promises the clearing (`clearingOf`, specs/Clearing.antt), `nearest_in` the nearest of those in it (`nearestIn`), `alone` the
+// test (`aloneIn`), `reach_after` how far the next one looks (`reachAfter`): each for any lists and any f32.
 use kdtree::BoundingBox;
 use kdtree::Link;
 use points::Point3;
 ghost use mathlib.Core.Path.{_≡_};
-ghost use mathlib.Core.Bool.{cond, not, _&&_};
-ghost use Prim.Native.Nat.{ℕ, _+_, _-_, _*_, _<_, _≤_};
+ghost use mathlib.Core.Bool.{cond};
+ghost use Prim.Native.Nat.{ℕ, _-_, _*_, _<_, _≤_};
 ghost use lib.Dec.{ltb};
 ghost use lib.ListN.{length};
 ghost use Rattle.kdtree.specs.Tree.{subtree};
@@ -108,11 +108,9 @@ fn meet(own: usize, p: Point3, n: usize, x: Point3, places: &mut [u16; 24], kept
         return kept;
     }
     if count < MOST {
+        let more = count + 1;
         places[count] = n as u16;
-        return Kept {
-            faces,
-            count: count + 1,
-        };
+        return Kept { faces, count: more };
     }
     let drawn = drawn_in(faces, p, x);
     Kept {
@@ -201,7 +199,7 @@ pub fn clear(
     if reach < step {
         return none(p);
     }
-    let around = BoundingBox {
+    let wide = BoundingBox {
         min_x: p.x - reach,
         min_y: p.y - reach,
         min_z: p.z - reach,
@@ -210,7 +208,7 @@ pub fn clear(
         max_z: p.z + reach,
     };
     let start = Kept {
-        faces: around,
+        faces: wide,
         count: 0,
     };
     let mut places = [0; 24];

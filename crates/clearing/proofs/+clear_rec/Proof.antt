@@ -137,6 +137,10 @@ module _ (t : ℕ) (c : Tested t) where
         ec = came t (c .before);
       }
 
+  -- the link to the other side
+  abbrev other : ℕ
+  other = let a = st t (c .before .before) .args in step.far (now (now (a .left))) (now (now (a .right))) (now (now (a .xs))) (a .m) (a .own) (pointAt (now (now (a .xs))) (a .own)) (lt (here .w) (here .v)) (a .node)
+
 clear-rec-point-at-requires : (t : ℕ) → clear-rec-lts.Need-point-at-requires (claims t) (clear-rec-at t) clear-rec.Post
 clear-rec-point-at-requires t c κs = let h = c .before .pre .1 in omega (arith, h .1, h .5)
 
@@ -153,16 +157,16 @@ clear-rec-next-axis-requires : (t : ℕ) → clear-rec-lts.Need-next-axis-requir
 clear-rec-next-axis-requires t c κs = tt
 
 clear-rec-mul-l : (t : ℕ) → clear-rec-lts.Need-mul-l (claims t) (clear-rec-at t) clear-rec.Post
-clear-rec-mul-l t c = search needs
+clear-rec-mul-l t c = let h = c .before .before .before .before .before .before .before .pre .1 in omega (arith, h .0, h .4)
 
 clear-rec-index-1-l : (t : ℕ) → clear-rec-lts.Need-index-1-l (claims t) (clear-rec-at t) clear-rec.Post
-clear-rec-index-1-l t c = search needs
+clear-rec-index-1-l t c = let h = c .before .before .before .before .before .before .before .pre .1 in omega (arith, h .0, h .2)
 
 clear-rec-mul-r : (t : ℕ) → clear-rec-lts.Need-mul-r (claims t) (clear-rec-at t) clear-rec.Post
-clear-rec-mul-r t c = search needs
+clear-rec-mul-r t c = let h = c .before .before .before .before .before .before .before .before .pre .1 in omega (arith, h .0, h .4)
 
 clear-rec-index-1-r : (t : ℕ) → clear-rec-lts.Need-index-1-r (claims t) (clear-rec-at t) clear-rec.Post
-clear-rec-index-1-r t c = search needs
+clear-rec-index-1-r t c = let h = c .before .before .before .before .before .before .before .before .pre .1 in omega (arith, h .0, h .3)
 
 clear-rec-meet-requires : (t : ℕ) → clear-rec-lts.Need-meet-requires (claims t) (clear-rec-at t) clear-rec.Post
 clear-rec-meet-requires t c κs = let h = c .before .before .before .before .before .before .before .before .before .before .pre .1 in omega (arith, h .0, h .4)
@@ -216,7 +220,7 @@ clear-rec-returns t c =
     let k = q .link-of2 in
     let n = c .before .before .before .n2 in
     step.goes-on (now (now (a .left))) (now (now (a .right))) (now (now (a .xs))) (a .m) (a .own) (pointAt (now (now (a .xs))) (a .own)) (a .node) (a .axis) _ (here t g) (g .goes-past .result) _ (g .goes-past .ensures) (q .before .before .if1 .taken)
-    (step.side-to (now (now (a .left))) (now (now (a .right))) (now (now (a .xs))) (a .m) (a .own) (pointAt (now (now (a .xs))) (a .own)) (a .node) _ (here t g .nx) (here t g .c) (l .result) (k .result) (l .ensures) (k .ensures) (n .given .0 .0) _ (n .given .1) (c .clear-rec2 .ensures))
+    (step.side-to (now (now (a .left))) (now (now (a .right))) (now (now (a .xs))) (a .m) (a .own) (pointAt (now (now (a .xs))) (a .own)) (a .node) (other t g) (here t g .nx) (here t g .c) (l .result) (k .result) (l .ensures) (k .ensures) (n .given .0 .0) _ (n .given .1) (c .clear-rec2 .ensures))
 
 clear-rec-returns-2 : (t : ℕ) → clear-rec-lts.Need-returns-2 (claims t) (clear-rec-at t) clear-rec.Post
 clear-rec-returns-2 t c =
@@ -226,7 +230,7 @@ clear-rec-returns-2 t c =
     let l = q .before .either2 in
     let k = q .link-of2 in
     step.goes-on (now (now (a .left))) (now (now (a .right))) (now (now (a .xs))) (a .m) (a .own) (pointAt (now (now (a .xs))) (a .own)) (a .node) (a .axis) _ (here t g) (g .goes-past .result) (here t g .c) (g .goes-past .ensures) (q .before .before .if1 .taken)
-    (step.side-none (now (now (a .left))) (now (now (a .right))) (now (now (a .xs))) (a .m) (a .own) (pointAt (now (now (a .xs))) (a .own)) (a .node) _ (here t g .nx) (here t g .c) (l .result) (k .result) (l .ensures) (k .ensures) (c .match2 .keys2))
+    (step.side-none (now (now (a .left))) (now (now (a .right))) (now (now (a .xs))) (a .m) (a .own) (pointAt (now (now (a .xs))) (a .own)) (a .node) (other t g) (here t g .nx) (here t g .c) (l .result) (k .result) (l .ensures) (k .ensures) (c .match2 .keys2))
 
 clear-rec-returns-3 : (t : ℕ) → clear-rec-lts.Need-returns-3 (claims t) (clear-rec-at t) clear-rec.Post
 clear-rec-returns-3 t c =

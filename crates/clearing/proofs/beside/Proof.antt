@@ -1,6 +1,4 @@
-use mathlib.Core.Path.{ap, _∙_}
 use native.Mathlib.Omega.{arith}
-use borrow.Author.Needs.{needs}
 use borrow.Author.Tests.{lt-ltb, le-ltb}
 use Rattle.clearing.proofs.beside.Statement.{statement}
 use Rattle.clearing.proofs.beside.Tie as tie
@@ -9,10 +7,10 @@ point-at-requires : tie.Need-point-at-requires
 point-at-requires c κs = let h = c .before .before .pre in let t = c .if1 .taken in omega (arith, h, t)
 
 dist-sq-requires : tie.Need-dist-sq-requires
-dist-sq-requires c κs = search needs
+dist-sq-requires c κs = tt
 
 nearer-requires : tie.Need-nearer-requires
-nearer-requires c κs = search needs
+nearer-requires c κs = tt
 
 returns : tie.Need-returns
 returns c =

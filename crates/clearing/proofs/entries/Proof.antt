@@ -1,4 +1,3 @@
-use mathlib.Core.Path.{refl}
 use borrow.Author.Tests.{lt-ltb, le-ltb}
 use Rattle.clearing.specs.Clearing.{entries}
 use Rattle.clearing.proofs.entries.Statement.{statement}

@@ -13,6 +13,9 @@ returns c =
     let a = o .before .before .args in
     choices.met-in (a .own) (a .p) (a .n) (a .x) (a .kept) (now (a .places)) (o .has-inside .result) (o .has-inside .ensures) (c .if1 .taken)
 
+add-more : tie.Need-add-more
+add-more c = let t = c .if2 .taken in omega (arith, t)
+
 cast-places : tie.Need-cast-places
 cast-places c = let h = c .before .before .before .before .pre in omega (arith, h)
 
@@ -21,9 +24,6 @@ mul-places c = let t = c .if2 .taken in omega (arith, t)
 
 element-write-places : tie.Need-element-write-places
 element-write-places c = c .if2 .taken
-
-add-t15 : tie.Need-add-t15
-add-t15 c = let t = c .if2 .taken in omega (arith, t)
 
 returns-2 : tie.Need-returns-2
 returns-2 c =
@@ -42,4 +42,4 @@ returns-3 c =
     choices.met-drawn (a .own) (a .p) (a .n) (a .x) (a .kept) (now (a .places)) (o .has-inside .result) (o .has-inside .ensures) (e .before .if1 .left) (e .if2 .left) (c .drawn-in .result) (c .drawn-in .ensures)
 
 pub meet-spec : {M : Type 1} → statement M
-meet-spec = tie.close (tie.spec has-inside-requires returns cast-places mul-places element-write-places add-t15 returns-2 drawn-in-requires returns-3)
+meet-spec = tie.close (tie.spec has-inside-requires returns add-more cast-places mul-places element-write-places returns-2 drawn-in-requires returns-3)

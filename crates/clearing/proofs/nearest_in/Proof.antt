@@ -1,7 +1,7 @@
-use mathlib.Core.Path.{_≡_, refl, sym, ap, _∙_}
+use mathlib.Core.Path.{_≡_, refl, ap, _∙_}
 use mathlib.Core.Bool.{Bool, true, false, cond}
 use mathlib.Core.List.{List}
-use Prim.Native.Nat.{ℕ, zero, suc, _+_, _-_, _<_, _≤_}
+use Prim.Native.Nat.{ℕ, suc, _+_, _-_, _<_, _≤_}
 use native.Mathlib.Omega.{arith}
 use lib.Dec.{ltb}
 use lib.ListN.{getD}
@@ -42,13 +42,13 @@ few c = go (ltb (c .count) 24) (λ h. ltb-true _ _ h)
     go false f = omega arith
 
 point-at-requires : tie.Need-point-at-requires Inv-loop μ-loop
-point-at-requires c κs = search needs
+point-at-requires c κs = let h = c .before .pre in omega (arith, h .0, h .1)
 
 dist-sq-requires : tie.Need-dist-sq-requires Inv-loop μ-loop
-dist-sq-requires c κs = search needs
+dist-sq-requires c κs = tt
 
 entries-requires : tie.Need-entries-requires Inv-loop μ-loop
-entries-requires c κs = search needs
+entries-requires c κs = tt
 
 loop-holds : tie.Need-loop-holds Inv-loop μ-loop
 loop-holds c =
@@ -69,7 +69,7 @@ cast-beside : tie.Need-cast-beside Inv-loop μ-loop
 cast-beside c = search needs
 
 beside-requires : tie.Need-beside-requires Inv-loop μ-loop
-beside-requires c κs = search needs
+beside-requires c κs = c .before .before .before .before .before .before .before .pre .1
 
 add-i : tie.Need-add-i Inv-loop μ-loop
 add-i c = let o = c .before .before in let t = o .loop-test .taken in let h = o .before .loop .inv .1 in omega (arith, t, h)
