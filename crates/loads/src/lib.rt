@@ -27,10 +27,10 @@ fn place(kind: u32, positions: &[f32], cartesian: &mut [f32])
     ensures { λ _. ⌜ now (cartesian .exit) ≡ cartesianFrom kind (now (positions .entry)) ⌝ }
 {
     lists::copy(positions, cartesian, positions.len());
-    if kind == 0 {
-        return;
+    match kind {
+        0 => {}
+        _ => coords::convert_triplets(1, cartesian),
     }
-    coords::convert_triplets(1, cartesian);
 }
 
 // Links, box, bounds and neighbours of m Cartesian positions. Over links that were just made no search is refused, so the table's

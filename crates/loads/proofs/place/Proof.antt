@@ -8,16 +8,16 @@ use Rattle.loads.proofs.place.Tie as tie
 copy-requires : tie.Need-copy-requires
 copy-requires c κs = search needs
 
+convert-triplets-requires : tie.Need-convert-triplets-requires
+convert-triplets-requires c κs = search needs
+
 same-length : tie.Need-same-length
 same-length c = search needs
 
 returns : tie.Need-returns
 returns c =
     let a = c .before .before .before .before .before .before .before .args in
-    as-given (a .kind) (now (a .positions)) _ (now (a .cartesian)) (c .before .before .before .before .before .before .before .pre) (c .before .before .before .copy .ensures) (c .if1 .taken)
-
-convert-triplets-requires : tie.Need-convert-triplets-requires
-convert-triplets-requires c κs = search needs
+    as-given (a .kind) (now (a .positions)) _ (now (a .cartesian)) (c .before .before .before .before .before .before .before .pre) (c .before .before .before .copy .ensures) (c .match .keys1)
 
 same-length-2 : tie.Need-same-length-2
 same-length-2 c = search needs
@@ -25,9 +25,9 @@ same-length-2 c = search needs
 returns-2 : tie.Need-returns-2
 returns-2 c =
     let a = c .before .before .before .before .before .before .before .before .before .before .before .args in
-    turned-there (a .kind) (now (a .positions)) _ _ (now (a .cartesian)) (c .before .before .before .before .before .before .before .before .before .before .before .pre) (c .before .before .before .before .before .before .before .copy .ensures) (c .before .before .before .before .if1 .left) (c .before .before .convert-triplets .ensures)
+    turned-there (a .kind) (now (a .positions)) _ _ (now (a .cartesian)) (c .before .before .before .before .before .before .before .before .before .before .before .pre) (c .before .before .before .before .before .before .before .copy .ensures) (c .before .before .before .before .match .rest .1) (c .before .before .convert-triplets .ensures)
 
 pub place-spec : {M : Type 1} → statement M
 place-spec =
     tie.close
-    (tie.spec copy-requires same-length returns convert-triplets-requires same-length-2 returns-2)
+    (tie.spec copy-requires convert-triplets-requires same-length returns same-length-2 returns-2)
