@@ -7,10 +7,12 @@ use Rattle.lists.specs.Over.{over}
 use Rattle.points.specs.declared.Point3.{Point3}
 use Rattle.limits.specs.declared.Sizes.{Sizes}
 use Rattle.lookup.specs.declared.Lookup.{Lookup}
+use Rattle.lookup.specs.declared.Located.{Located}
+use Rattle.lookup.specs.declared.Located.the-variants.{At, Refused}
 use Rattle.lookup.specs.Lookup.{findOf}
 use Rattle.interpolate.specs.Blend.{Filter}
 use Rattle.reader.specs.Queries.{filterSays}
-use Rattle.loads.specs.Load.{Work, Load, loadOf, numberIn}
+use Rattle.loads.specs.Load.{Work, Load, loadOf}
 use Rattle.blocks.specs.Blocks.{blockOf}
 use Rattle.settext.specs.declared.State.{State}
 
@@ -22,7 +24,12 @@ sizesIn s = record { m = s .m; c = 3; r = s .r; n = s .n }
 unfoldable pub setOf : State → List Float → ℕ → Work → Load
 setOf s positions responses d = loadOf (s .kind) (sizesIn s) (take (3 * s .m) positions) responses (s .astep) (s .rstep) (s .rate) d
 
--- the number of the measurement nearest to a query; refused, it is not printed
+-- the number found; refused, it is not printed
+abbrev pub numberIn : Located → ℕ
+numberIn (At n) = n
+numberIn (Refused number place) = 65535
+
+-- the number of the measurement nearest to a query
 unfoldable pub nearestOf : State → Lookup → Work → Point3 → ℕ
 nearestOf s look d q = numberIn (findOf look (sizesIn s) (d .cartesian) (d .left) (d .right) q)
 

@@ -18,15 +18,12 @@ use Rattle.limits.proofs.Passed as passed
 use Rattle.coords.specs.Arrays.{turned, byTriplets}
 use Rattle.coords.proofs.Places.{changed-length}
 use Rattle.lookup.specs.declared.Lookup.{Lookup}
-use Rattle.lookup.specs.declared.Located.{Located}
-use Rattle.lookup.specs.declared.Located.the-variants.{At}
 use Rattle.lookup.specs.Build.{Built, linksOf, linked, lookupOf, builtAs, buildOf}
 use Rattle.lookup_laws.specs.Loaded.{Room}
-use Rattle.neighbors.specs.Neighbors.{Tabled, tabledAs, entryOf, tableOf}
-use Rattle.neighbors.proofs.Table.{all-answered}
-use Rattle.neighbor_laws.proofs.Settled.{entries}
+use Rattle.neighbors.specs.Neighbors.{Tabled, tabledAs, entryOf, markOf, tableOf}
+use Rattle.neighbor_laws.proofs.Settled as table
 use Rattle.loads.specs.declared.Loaded.the-variants.{Ready, Refused}
-use Rattle.loads.specs.Load.{Work, workOf, Load, loadAs, cartesianFrom, numberIn, indexed, placedIn, lengthsIn, loadBy, loadOf}
+use Rattle.loads.specs.Load.{Work, workOf, Load, loadAs, cartesianFrom, indexed, placedIn, lengthsIn, loadBy, loadOf}
 
 -- ---- the Cartesian list
 
@@ -70,16 +67,12 @@ module _ (m : ℕ) (angle radius : Float) (left right neigh : List ℕ) (xs : Li
   abbrev right* : List ℕ
   right* = over (linked xs m .right) right
 
-  abbrev entry* : ℕ → Located
-  entry* k = entryOf look* m xs left* right* angle radius k
-
-  answered : (k : ℕ) → entry* k ≡ At (numberIn (entry* k))
-  answered k = let e = entries xs m (linksOf left right) room look* angle radius k .is in e ∙ sym (ap (λ (x : Located). At (numberIn x)) e)
+  abbrev entry* : ℕ → ℕ
+  entry* k = markOf (entryOf look* m xs left* right* angle radius k)
 
   -- the whole table is written, and nothing refused on the way
-  pub filled : tableOf look* m xs left* right* angle radius neigh ≡ tabledAs verdict.Fine (over (upto (λ k. numberIn (entry* k)) (6 * m)) neigh)
-  unfolding tableOf
-  filled = all-answered entry* (λ k. numberIn (entry* k)) neigh (6 * m) (λ k l. answered k) fits
+  pub filled : tableOf look* m xs left* right* angle radius neigh ≡ tabledAs verdict.Fine (over (upto entry* (6 * m)) neigh)
+  filled = table.filled xs m (linksOf left right) room look* angle radius neigh fits
 
   pub is-indexed : (look : Lookup) (l r n : List ℕ) (v : Verdict) → builtAs look (linksOf l r) ≡ buildOf xs m (linksOf left right) → tabledAs v n ≡ tableOf look m xs l r angle radius neigh
       → loadAs (Ready look) (workOf l r n xs) ≡ indexed m angle radius (workOf left right neigh xs)
@@ -88,7 +81,7 @@ module _ (m : ℕ) (angle radius : Float) (left right neigh : List ℕ) (xs : Li
       let el : look ≡ look* = ap (λ (b : Built). b .lookup) eb in
       let e1 : l ≡ left* = ap (λ (b : Built). b .links .left) eb in
       let e2 : r ≡ right* = ap (λ (b : Built). b .links .right) eb in
-      let en : n ≡ over (upto (λ k. numberIn (entry* k)) (6 * m)) neigh =
+      let en : n ≡ over (upto entry* (6 * m)) neigh =
       ap (λ (t : Tabled). t .table)
       (et ∙ ap (λ (x : Lookup). tableOf x m xs l r angle radius neigh) el ∙ ap (λ (x : List ℕ). tableOf look* m xs x r angle radius neigh) e1
       ∙ ap (λ (x : List ℕ). tableOf look* m xs left* x angle radius neigh) e2 ∙ filled) in

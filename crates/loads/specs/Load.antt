@@ -12,10 +12,8 @@ use Rattle.limits.specs.declared.Verdict.{Verdict}
 use Rattle.limits.specs.declared.Verdict.the-variants as verdict
 use Rattle.limits.specs.Refusals.{verdictOf, loadLines}
 use Rattle.coords.specs.Arrays.{turned, byTriplets}
-use Rattle.lookup.specs.declared.Located.{Located}
-use Rattle.lookup.specs.declared.Located.the-variants as located
-use Rattle.lookup.specs.Build.{Links, linksOf, linked, overBoth, lookupOf}
-use Rattle.neighbors.specs.Neighbors.{entryOf}
+use Rattle.lookup.specs.Build.{linked, lookupOf}
+use Rattle.neighbors.specs.Neighbors.{entryOf, markOf}
 use Rattle.loads.specs.declared.Loaded.{Loaded}
 use Rattle.loads.specs.declared.Loaded.the-variants.{Ready, Refused}
 
@@ -43,19 +41,15 @@ loadAs a w = record { answer = a; work = w }
 unfoldable pub cartesianFrom : ℕ → List Float → List Float
 cartesianFrom kind xs = cond (eqb kind 0) xs (byTriplets (turned 1) xs)
 
--- the number of an entry; that none is refused is a theorem (proofs/Bare.antt)
-abbrev pub numberIn : Located → ℕ
-numberIn (located.At n) = n
-numberIn (located.Refused number place) = 65535
-
--- the links, the neighbours and the bounds of the first m positions of a Cartesian list, the rest of each list as it was
+-- the links, the neighbours and the bounds of the first m positions of a Cartesian list, the rest of each list as it was; that no neighbour is refused is
+-- a theorem (neighbor_laws, proofs/Settled.antt)
 unfoldable pub indexed : ℕ → Float → Float → Work → Load
 indexed m angle radius d =
     let xs = d .cartesian in
     let look = lookupOf xs m in
     let l = over (linked xs m .left) (d .left) in
     let r = over (linked xs m .right) (d .right) in
-    loadAs (Ready look) (workOf l r (over (upto (λ k. numberIn (entryOf look m xs l r angle radius k)) (6 * m)) (d .neighbours)) xs)
+    loadAs (Ready look) (workOf l r (over (upto (λ k. markOf (entryOf look m xs l r angle radius k)) (6 * m)) (d .neighbours)) xs)
 
 -- the Cartesian list with a set's positions at its front
 abbrev pub placedIn : ℕ → List Float → Work → Work

@@ -2,15 +2,16 @@
 use mathlib.Core.Path.{_≡_}
 use mathlib.Core.Logic.{_⊎_}
 use Prim.Native.Nat.{ℕ, _<_}
-use Rattle.lookup.specs.declared.Located.{Located}
-use Rattle.lookup.specs.declared.Located.the-variants.{At}
+use Rattle.neighbors.specs.declared.Reached.{Reached}
+use Rattle.neighbors.specs.declared.Reached.the-variants.{At, Absent, Refused}
+use Rattle.neighbors.specs.Neighbors.{absentMark}
 
--- absent, or the number of a measurement other than its own
+-- the number of a measurement other than its own, or absent; never refused
+abbrev pub Settles : ℕ → ℕ → Reached → Type 0
+Settles m own (At n) = (n < m) × (n ≡ own → ⊥)
+Settles m own Absent = Unit
+Settles m own (Refused k p) = ⊥
+
+-- the same of the number that the table holds
 abbrev pub Entry : ℕ → ℕ → ℕ → Type 0
-Entry m own n = (n ≡ 65535) ⊎ ((n < m) × (n ≡ own → ⊥))
-
--- an answer that is such an entry
-pub record Settles (m own : ℕ) (r : Located) : Type 0 where
-  pub number : ℕ
-  pub is : r ≡ At number
-  pub entry : Entry m own number
+Entry m own n = (n ≡ absentMark) ⊎ ((n < m) × (n ≡ own → ⊥))

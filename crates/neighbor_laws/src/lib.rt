@@ -1,5 +1,5 @@
 // What the neighbour table's definitions mean. Theory alone: no function.
 //
-// proofs/Settled.antt: over links that were built (`Lookup::new`), with any lookup and any steps, each search answers 65535 or the number of
-// another measurement, so the table is filled whole and a load never refuses 9 (`filled`, `entries`). proofs/Absent.antt: an entry is absent
-// exactly if no step before the end gives a number other than its own. proofs/Caps.antt: for an allowed step the cap is 1 to 450.
+// proofs/Settled.antt: over links that were built (`Lookup::new`), with any lookup and any steps, each search answers absent or the number of
+// another measurement (`settled`, `entries`), so the table is filled whole and a load never refuses 9 (`filled`). proofs/Absent.antt: over
+// any links a direction is absent exactly if each step before the end gives its own number. proofs/Caps.antt: for an allowed step the cap is 1 to 450.

@@ -14,9 +14,11 @@ use Rattle.coords.specs.declared.Turn.{Turn}
 use Rattle.coords.specs.Coords.{turnOf, alongOf, cartesianOf}
 use Rattle.lookup.specs.declared.Lookup.{Lookup}
 use Rattle.lookup.specs.declared.Located.{Located}
-use Rattle.lookup.specs.declared.Located.the-variants.{At, Refused}
+use Rattle.lookup.specs.declared.Located.the-variants as located
 use Rattle.lookup.specs.Lookup.{locateOf}
-use Rattle.neighbors.specs.Neighbors.{after, tilted, moved, leaves, unlessOwn, going, directionOf}
+use Rattle.neighbors.specs.declared.Reached.{Reached}
+use Rattle.neighbors.specs.declared.Reached.the-variants.{At, Absent}
+use Rattle.neighbors.specs.Neighbors.{after, tilted, moved, leaves, passedOn, unlessOwn, going, directionOf}
 use Rattle.neighbors.proofs.Fixed.{Kept, turned-is, kept-on}
 
 -- ---- the point that a step leads to, of turns that may be kept
@@ -49,20 +51,20 @@ module _ (from step : Spherical) (i : ℕ) (h : i + 1 ≤ 4294967296) (there : S
 -- ---- one turn
 
 module _ (look : Lookup) (m : ℕ) (xs : List Float) (left right : List ℕ) (own : ℕ) (from step : Spherical) where
-  abbrev go : ℕ → ℕ → Located
+  abbrev go : ℕ → ℕ → Reached
   go k i = going look m xs left right own from step k i
 
   pub start : (cap : ℕ) → go (cap - 0) 0 ≡ directionOf look m xs left right own from step cap
   unfolding directionOf
   start cap = let e : cap - 0 ≡ cap = omega arith in ap (λ (k : ℕ). go k 0) e
 
-  pub at-end : (k i : ℕ) → k ≡ 0 → At 65535 ≡ go k i
+  pub at-end : (k i : ℕ) → k ≡ 0 → Absent ≡ go k i
   unfolding going
   at-end k i e = sym (ap (λ (j : ℕ). go j i) e)
 
   module _ (k j i : ℕ) (ek : k ≡ suc j) (there : Spherical) (et : there ≡ moved from step (i + 1)) where
-    abbrev chosen : Bool → Spherical → Located
-    chosen b p = elim b [ true ↦ At 65535 | false ↦ unlessOwn own (locateOf look m xs left right (cartesianOf p)) (go j (i + 1)) ]
+    abbrev chosen : Bool → Spherical → Reached
+    chosen b p = elim b [ true ↦ Absent | false ↦ unlessOwn own (locateOf look m xs left right (cartesianOf p)) (go j (i + 1)) ]
 
     opened : go k i ≡ chosen (leaves look (step .radius) (moved from step (i + 1) .radius)) (moved from step (i + 1))
     unfolding going
@@ -72,7 +74,7 @@ module _ (look : Lookup) (m : ℕ) (xs : List Float) (left right : List ℕ) (ow
     by b e =
         opened ∙ ap (λ (p : Spherical). chosen (leaves look (step .radius) (p .radius)) p) (sym et) ∙ ap (λ (c : Bool). chosen c there) e
 
-    pub out : leaves look (step .radius) (there .radius) ≡ true → At 65535 ≡ go k i
+    pub out : leaves look (step .radius) (there .radius) ≡ true → Absent ≡ go k i
     out e = sym (by true e)
 
     module _ (e : leaves look (step .radius) (there .radius) ≡ false) (q : Point3) (eqq : q ≡ cartesianOf there) (found : Located)
@@ -82,14 +84,14 @@ module _ (look : Lookup) (m : ℕ) (xs : List Float) (left right : List ℕ) (ow
           by false e ∙ ap (λ (p : Point3). unlessOwn own (locateOf look m xs left right p) (go j (i + 1))) (sym eqq)
           ∙ ap (λ (f : Located). unlessOwn own f (go j (i + 1))) (sym ef)
 
-      pub refused : (c p : ℕ) → found ≡ Refused c p → found ≡ go k i
+      pub refused : (c p : ℕ) → found ≡ located.Refused c p → (r : Reached) → r ≡ passedOn found → r ≡ go k i
       unfolding unlessOwn
-      refused c p h = h ∙ sym (met ∙ ap (λ (f : Located). unlessOwn own f (go j (i + 1))) h)
+      refused c p h r er = er ∙ ap passedOn h ∙ sym (met ∙ ap (λ (f : Located). unlessOwn own f (go j (i + 1))) h)
 
-      pub other : (n : ℕ) → found ≡ At n → (n ≡ own → ⊥) → At n ≡ go k i
+      pub other : (n : ℕ) → found ≡ located.At n → (n ≡ own → ⊥) → At n ≡ go k i
       unfolding unlessOwn
       other n h f = sym (met ∙ ap (λ (f : Located). unlessOwn own f (go j (i + 1))) h ∙ ap (λ (b : Bool). cond b (go j (i + 1)) (At n)) (ne-eqb n own f))
 
-      pub same : (n : ℕ) → found ≡ At n → n ≡ own → go j (i + 1) ≡ go k i
+      pub same : (n : ℕ) → found ≡ located.At n → n ≡ own → go j (i + 1) ≡ go k i
       unfolding unlessOwn
       same n h f = sym (met ∙ ap (λ (f : Located). unlessOwn own f (go j (i + 1))) h ∙ ap (λ (b : Bool). cond b (go j (i + 1)) (At n)) (eq-eqb n own f))

@@ -1,5 +1,5 @@
 -- The table: a turn of its loops, a row as a part of it, and the whole where no entry refuses. Assumes nothing.
-use mathlib.Core.Path.{_≡_, refl, sym, ap, _∙_}
+use mathlib.Core.Path.{_≡_, refl, sym, ap, _∙_, subst}
 use mathlib.Core.List.{List}
 use Prim.Native.Nat.{ℕ, zero, suc, _+_, _*_, _/_, _%_, _<_, _≤_}
 use native.Mathlib.Omega.{arith}
@@ -14,27 +14,42 @@ use Rattle.coords.specs.Coords.{sphericalOf}
 use Rattle.limits.specs.declared.Verdict.{Verdict}
 use Rattle.limits.specs.declared.Verdict.the-variants as verdict
 use Rattle.lookup.specs.declared.Lookup.{Lookup}
-use Rattle.lookup.specs.declared.Located.{Located}
-use Rattle.lookup.specs.declared.Located.the-variants.{At, Refused}
-use Rattle.lookup.specs.Lookup.{verdictIn}
-use Rattle.neighbors.specs.Neighbors.{stepOf, capOf, directionOf, neighborOf, entryOf, Tabled, tabledAs, byEntry, writing}
+use Rattle.neighbors.specs.declared.Reached.{Reached}
+use Rattle.neighbors.specs.declared.Reached.the-variants.{At, Absent, Refused}
+use Rattle.neighbors.specs.Neighbors.{stepOf, capOf, directionOf, neighborOf, entryOf, absentMark, Tabled, tabledAs, byEntry, writing}
 
-module _ (entry : ℕ → Located) where
+-- what is written of an entry: nothing of one that refuses
+abbrev pub Writes : Reached → ℕ → Type 0
+Writes (At n) k = n ≡ k
+Writes Absent k = absentMark ≡ k
+Writes (Refused c p) k = ⊥
+
+pub writes-at : (r : Reached) (n k : ℕ) → r ≡ At n → k ≡ n → Writes r k
+writes-at r n k e h = subst (λ (x : Reached). Writes x k) (sym e) (sym h)
+
+pub writes-absent : (r : Reached) (k : ℕ) → r ≡ Absent → k ≡ absentMark → Writes r k
+writes-absent r k e h = subst (λ (x : Reached). Writes x k) (sym e) (sym h)
+
+written : (r : Reached) (k : ℕ) → Writes r k → (d : List ℕ) (f : ℕ → Tabled) → byEntry r d f ≡ f k
+written (At n) k w d f = ap f w
+written Absent k w d f = ap f w
+written (Refused c p) k w d f = absurd w
+
+module _ (entry : ℕ → Reached) where
   pub at-end : (j k : ℕ) (d : List ℕ) → j ≡ 0 → tabledAs verdict.Fine d ≡ writing entry j k d
   unfolding writing
   at-end j k d e = sym (ap (λ (n : ℕ). writing entry n k d) e)
 
-  module _ (j i k : ℕ) (d : List ℕ) (ej : j ≡ suc i) (a : Located) (ea : a ≡ entry k) where
+  module _ (j i k : ℕ) (d : List ℕ) (ej : j ≡ suc i) (a : Reached) (ea : a ≡ entry k) where
     met : writing entry j k d ≡ byEntry a d (λ n. writing entry i (k + 1) (set d k n))
     unfolding writing
-    met = ap (λ (n : ℕ). writing entry n k d) ej ∙ ap (λ (x : Located). byEntry x d (λ n. writing entry i (k + 1) (set d k n))) (sym ea)
+    met = ap (λ (n : ℕ). writing entry n k d) ej ∙ ap (λ (x : Reached). byEntry x d (λ n. writing entry i (k + 1) (set d k n))) (sym ea)
 
-    pub refused : (c p : ℕ) → a ≡ Refused c p → (t : Verdict) → t ≡ verdictIn a → tabledAs t d ≡ writing entry j k d
-    refused c p e t et =
-        ap (λ (x : Verdict). tabledAs x d) (et ∙ ap verdictIn e) ∙ sym (met ∙ ap (λ (x : Located). byEntry x d (λ n. writing entry i (k + 1) (set d k n))) e)
+    pub refused : (c p : ℕ) → a ≡ Refused c p → tabledAs (verdict.Refused c p) d ≡ writing entry j k d
+    refused c p e = sym (met ∙ ap (λ (x : Reached). byEntry x d (λ n. writing entry i (k + 1) (set d k n))) e)
 
-    pub on : (n : ℕ) → a ≡ At n → writing entry i (k + 1) (set d k n) ≡ writing entry j k d
-    on n e = sym (met ∙ ap (λ (x : Located). byEntry x d (λ n. writing entry i (k + 1) (set d k n))) e)
+    pub on : (n : ℕ) → Writes a n → writing entry i (k + 1) (set d k n) ≡ writing entry j k d
+    on n w = sym (met ∙ written a n w d (λ n. writing entry i (k + 1) (set d k n)))
 
   -- ---- a row as a part of the table
 
@@ -53,9 +68,10 @@ module _ (entry : ℕ → Located) where
       shift : (t : Tabled) → thenOn t (writing entry b (k + 1 + a)) ≡ thenOn t (writing entry b (k + suc a))
       shift t = let e : k + 1 + a ≡ k + suc a = omega arith in ap (λ (n : ℕ). thenOn t (writing entry b n)) e
 
-      go : (x : Located) → ((n : ℕ) → writing entry (a + b) (k + 1) (set d k n) ≡ thenOn (writing entry a (k + 1) (set d k n)) (writing entry b (k + 1 + a)))
+      go : (x : Reached) → ((n : ℕ) → writing entry (a + b) (k + 1) (set d k n) ≡ thenOn (writing entry a (k + 1) (set d k n)) (writing entry b (k + 1 + a)))
           → byEntry x d (λ n. writing entry (a + b) (k + 1) (set d k n)) ≡ thenOn (byEntry x d (λ n. writing entry a (k + 1) (set d k n))) (writing entry b (k + suc a))
       go (At n) f = f n ∙ shift (writing entry a (k + 1) (set d k n))
+      go Absent f = f absentMark ∙ shift (writing entry a (k + 1) (set d k absentMark))
       go (Refused c p) f = refl
 
   -- what a loop over parts needs: the part answered Fine, or it refused
@@ -71,8 +87,8 @@ module _ (entry : ℕ → Located) where
 
 -- ---- no entry refuses
 
-module _ (entry : ℕ → Located) (number : ℕ → ℕ) (d : List ℕ) where
-  from-here : (j k : ℕ) → ((i : ℕ) → i < k + j → entry i ≡ At (number i)) → k + j ≤ length d
+module _ (entry : ℕ → Reached) (number : ℕ → ℕ) (d : List ℕ) where
+  from-here : (j k : ℕ) → ((i : ℕ) → i < k + j → Writes (entry i) (number i)) → k + j ≤ length d
       → writing entry j k (over (upto number k) d) ≡ tabledAs verdict.Fine (over (upto number (k + j)) d)
   from-here zero k f h = sym (at-end entry 0 k (over (upto number k) d) refl) ∙ (let e : k ≡ k + 0 = omega arith in ap (λ (n : ℕ). tabledAs verdict.Fine (over (upto number n) d)) e)
   from-here (suc j) k f h =
@@ -82,14 +98,14 @@ module _ (entry : ℕ → Located) (number : ℕ → ℕ) (d : List ℕ) where
       ∙ (let e : k + 1 + j ≡ k + suc j = omega arith in ap (λ (n : ℕ). tabledAs verdict.Fine (over (upto number n) d)) e)
 
   -- EVERY ENTRY ANSWERED: the table holds the numbers, and then what it held
-  pub all-answered : (n : ℕ) → ((i : ℕ) → i < n → entry i ≡ At (number i)) → n ≤ length d → writing entry n 0 d ≡ tabledAs verdict.Fine (over (upto number n) d)
+  pub all-answered : (n : ℕ) → ((i : ℕ) → i < n → Writes (entry i) (number i)) → n ≤ length d → writing entry n 0 d ≡ tabledAs verdict.Fine (over (upto number n) d)
   unfolding upto
   all-answered n f h = ap (writing entry n 0) (sym (over-nil d)) ∙ from-here n 0 (λ i l. f i (omega arith)) (omega arith) ∙ (let e : 0 + n ≡ n = omega arith in ap (λ (k : ℕ). tabledAs verdict.Fine (over (upto number k) d)) e)
 
 -- ---- an entry in the terms of the code
 
 pub entry-is : (look : Lookup) (m : ℕ) (xs : List Float) (left right : List ℕ) (angle radius : Float) (own d : ℕ) → d < 6 → (p : Point3) (from step : Spherical) (cap : ℕ)
-    → p ≡ pointAt xs own → from ≡ sphericalOf p → step ≡ stepOf d angle radius → cap ≡ capOf d angle → (r : Located) → r ≡ directionOf look m xs left right own from step cap
+    → p ≡ pointAt xs own → from ≡ sphericalOf p → step ≡ stepOf d angle radius → cap ≡ capOf d angle → (r : Reached) → r ≡ directionOf look m xs left right own from step cap
     → r ≡ entryOf look m xs left right angle radius (6 * own + d)
 unfolding entryOf neighborOf
 entry-is look m xs left right angle radius own d h p from step cap ep ef es ec r er =

@@ -14,8 +14,10 @@ use Rattle.limits.specs.declared.Verdict.{Verdict}
 use Rattle.limits.specs.declared.Verdict.the-variants as verdict
 use Rattle.lookup.specs.declared.Lookup.{Lookup}
 use Rattle.lookup.specs.declared.Located.{Located}
-use Rattle.lookup.specs.declared.Located.the-variants.{At, Refused}
+use Rattle.lookup.specs.declared.Located.the-variants as located
 use Rattle.lookup.specs.Lookup.{locateOf}
+use Rattle.neighbors.specs.declared.Reached.{Reached}
+use Rattle.neighbors.specs.declared.Reached.the-variants.{At, Absent, Refused}
 
 -- ---- one step
 
@@ -65,31 +67,46 @@ capOf d angle = cond (ltb d 4) (angleCap angle) 100
 
 -- ---- one search
 
+-- a step's answer as that of its direction
+abbrev pub passedOn : Located → Reached
+passedOn (located.At n) = At n
+passedOn (located.Refused k p) = Refused k p
+
 -- a number other than its own is the neighbour, and a refusal is passed on
-unfoldable pub unlessOwn : ℕ → Located → Located → Located
-unlessOwn own (At n) further = cond (eqb n own) further (At n)
-unlessOwn own (Refused k p) further = Refused k p
+unfoldable pub unlessOwn : ℕ → Located → Reached → Reached
+unlessOwn own (located.At n) further = cond (eqb n own) further (At n)
+unlessOwn own (located.Refused k p) further = Refused k p
 
 module _ (look : Lookup) (m : ℕ) (xs : List Float) (left right : List ℕ) where
-  -- k steps are left when i are done; 65535 for absent
-  unfoldable pub going : ℕ → Spherical → Spherical → ℕ → ℕ → Located
-  going own from step zero i = At 65535
+  -- k steps are left when i are done
+  unfoldable pub going : ℕ → Spherical → Spherical → ℕ → ℕ → Reached
+  going own from step zero i = Absent
   going own from step (suc k) i =
       let there = moved from step (i + 1) in
-      elim (leaves look (step .radius) (there .radius)) [ true ↦ At 65535 | false ↦ unlessOwn own (locateOf look m xs left right (cartesianOf there)) (going own from step k (i + 1)) ]
+      elim (leaves look (step .radius) (there .radius)) [ true ↦ Absent | false ↦ unlessOwn own (locateOf look m xs left right (cartesianOf there)) (going own from step k (i + 1)) ]
 
-  unfoldable pub directionOf : ℕ → Spherical → Spherical → ℕ → Located
+  unfoldable pub directionOf : ℕ → Spherical → Spherical → ℕ → Reached
   directionOf own from step cap = going own from step cap 0
 
-  -- the entry of a measurement and a direction
-  unfoldable pub neighborOf : Float → Float → ℕ → ℕ → Located
+  -- the neighbour of a measurement in a direction
+  unfoldable pub neighborOf : Float → Float → ℕ → ℕ → Reached
   neighborOf angle radius own d = directionOf own (sphericalOf (pointAt xs own)) (stepOf d angle radius) (capOf d angle)
 
-  -- the entry at a place of the table
-  unfoldable pub entryOf : Float → Float → ℕ → Located
+  -- the one at a place of the table
+  unfoldable pub entryOf : Float → Float → ℕ → Reached
   entryOf angle radius k = neighborOf angle radius (k / 6) (k % 6)
 
 -- ---- the table
+
+-- document 01's mark for absent in a list of 16-bit numbers
+abbrev pub absentMark : ℕ
+absentMark = 65535
+
+-- what the table holds of it; a refused one is never written
+abbrev pub markOf : Reached → ℕ
+markOf (At n) = n
+markOf Absent = absentMark
+markOf (Refused k p) = absentMark
 
 -- what a call answers, and what the table then holds
 pub record Tabled : Type 0 where
@@ -99,12 +116,14 @@ pub record Tabled : Type 0 where
 abbrev pub tabledAs : Verdict → List ℕ → Tabled
 tabledAs v d = record { answer = v; table = d }
 
-abbrev pub byEntry : Located → List ℕ → (ℕ → Tabled) → Tabled
+-- a number or the mark is written, and a refusal ends it
+abbrev pub byEntry : Reached → List ℕ → (ℕ → Tabled) → Tabled
 byEntry (At n) d f = f n
+byEntry Absent d f = f absentMark
 byEntry (Refused k p) d f = tabledAs (verdict.Refused k p) d
 
 -- j entries from the place k on, until one refuses
-module _ (entry : ℕ → Located) where
+module _ (entry : ℕ → Reached) where
   unfoldable pub writing : ℕ → ℕ → List ℕ → Tabled
   writing zero k d = tabledAs verdict.Fine d
   writing (suc j) k d = byEntry (entry k) d (λ n. writing j (k + 1) (set d k n))

@@ -1,13 +1,19 @@
 // The six neighbours of each measurement, by steps in six directions: neighbors.rs over lent lists.
 //
-// `search_direction` promises the first found number other than the measurement's own, 65535 where no step before the end gives one
-// (`directionOf`, specs/Neighbors.antt); `find_neighbors` writes the six of one measurement, `fill_neighbors` those of all, 6m entries
-// and nothing past them (`tableOf`). The definitions take each step's sine and cosine anew; the code takes those of an angle that
-// stays fixed once a search, and proofs/Fixed.antt says why that is the same bit for bit. Nor does the code search where a measurement's
-// clearing tells which is nearest: over links that were built (`BuiltBy`, specs/Built.antt) that is the same (proofs/Around.antt).
+// `search_direction` promises the first found number other than the measurement's own, or that no step before the end gives one
+// (`directionOf`, specs/Neighbors.antt); `find_neighbors` writes the six of one measurement, 65535 for absent, `fill_neighbors` those
+// of all, 6m entries and nothing past them (`tableOf`). The definitions take each step's sine and cosine anew; the code takes those of
+// an angle that stays fixed once a search, and proofs/Fixed.antt says why that is the same bit for bit.
+//
+// The definitions also search the tree anew at each step (`locateOf`). But most steps end close to the measurement that they start from:
+// at itself, or at one beside it. So `fill_neighbors` first takes its clearing (crate `clearing`): an open box around it, and the places
+// of all others that stand in the box. Where a step leads so deep into the box that the nearest of these is nearer than every face,
+// `locate_around` answers that one and leaves the search out; where it does not, or two are as near, it searches. That this answers what
+// the search would is `found-by` (proofs/Around.antt), of a clearing that `Surrounds` its measurement (specs/Built.antt). Over links that
+// were built (`BuiltBy`) each clearing does: `surrounds`, there too, by the theorem `alone-found` of the crate `clearing_laws`.
 //
 // The crate `neighbor_laws` has what this means for a set that was loaded: no entry is refused, so a load never says 9, and each
-// entry is 65535 or the number of another measurement.
+// is absent or the number of another measurement.
 use clearing::Clearing;
 use coords::Spherical;
 use coords::Turn;
@@ -24,8 +30,15 @@ ghost use lib.Ieee.{eq};
 ghost use Rattle.floats.specs.Floats.{zero32};
 ghost use Rattle.coords.specs.Coords.{turnOf};
 ghost use Rattle.lookup.specs.Lookup.{locateOf};
-ghost use Rattle.neighbors.specs.Neighbors.{after, moved, leaves, steps, stepOf, capOf, directionOf, tabledAs, rowOf, tableOf};
+ghost use Rattle.neighbors.specs.Neighbors.{after, moved, leaves, steps, stepOf, capOf, passedOn, directionOf, tabledAs, rowOf, tableOf};
 ghost use Rattle.neighbors.specs.Built.{Surrounds, BuiltBy};
+
+// What the steps of one direction come to: another measurement, none, or document 01's refusal (number and place).
+pub enum Reached {
+    At(u16),
+    Absent,
+    Refused(u32, usize),
+}
 
 fn after_steps(v: f32, step: f32, s: u32) -> f32
     ensures { λ r. ⌜ r ≡ after v step s ⌝ }
@@ -91,7 +104,17 @@ fn locate_around(
     look.nearest(m, cartesian, left, right, p)
 }
 
-// The first found number other than its own, 65535 if there is none.
+// A step's answer as that of its direction.
+fn pass_on(found: Located) -> Reached
+    ensures { λ r. ⌜ r ≡ passedOn found ⌝ }
+{
+    match found {
+        Located::At(n) => Reached::At(n),
+        Located::Refused(number, place) => Reached::Refused(number, place),
+    }
+}
+
+// The first found number other than its own.
 fn search_direction(
     look: Lookup,
     m: usize,
@@ -103,7 +126,7 @@ fn search_direction(
     from: Spherical,
     step: Spherical,
     cap: u32,
-) -> Located
+) -> Reached
     requires { ⌜ (own < m) × (3 * m ≤ length (now cartesian)) × (m ≤ length (now left)) × (m ≤ length (now right)) × (m ≤ 16384)
         × Surrounds look m (now cartesian) (now left) (now right) own around ⌝ }
     ensures { λ r. ⌜ r ≡ directionOf look m (now (cartesian .entry)) (now (left .entry)) (now (right .entry)) own from step cap ⌝ }
@@ -114,21 +137,21 @@ fn search_direction(
     while i < cap {
         let there = step_to(from, step, i + 1);
         if has_left(look, step.radius, there.radius) {
-            return Located::At(65535);
+            return Reached::Absent;
         }
         phi = turned(phi, step.azimuth, i, there.azimuth);
         theta = turned(theta, step.elevation, i, there.elevation);
         let q = coords::along(phi, theta, there.radius);
         let found = locate_around(look, m, cartesian, left, right, own, around, q);
         let Located::At(n) = found else {
-            return found;
+            return pass_on(found);
         };
         if n != own {
-            return found;
+            return Reached::At(n);
         }
         i += 1;
     }
-    Located::At(65535)
+    Reached::Absent
 }
 
 // Azimuth +, −, elevation +, −, radius +, −.
@@ -201,10 +224,12 @@ fn find_neighbors(
             step,
             cap,
         );
-        let Located::At(n) = found else {
-            return lookup::verdict(found);
+        let entry = match found {
+            Reached::At(n) => n,
+            Reached::Absent => 65535,
+            Reached::Refused(reason, place) => return Verdict::Refused(reason, place),
         };
-        neighbors[6 * own + d] = n;
+        neighbors[6 * own + d] = entry;
         d += 1;
     }
     Verdict::Fine

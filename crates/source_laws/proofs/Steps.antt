@@ -1,4 +1,4 @@
--- The source's search_direction and the port's: step by step the same, 65535 for None. Assumes nothing.
+-- The source's search_direction and the port's: step by step the same, Absent for None. Assumes nothing.
 use mathlib.Core.Path.{_≡_, refl, sym, ap, _∙_, subst}
 use mathlib.Core.Bool.{Bool, true, false, cond, _||_}
 use mathlib.Core.List.{List}
@@ -11,14 +11,16 @@ use Rattle.coords.specs.declared.Spherical.{Spherical}
 use Rattle.coords.specs.Coords.{cartesianOf}
 use Rattle.lookup.specs.declared.Lookup.{Lookup}
 use Rattle.lookup.specs.declared.Located.{Located}
-use Rattle.lookup.specs.declared.Located.the-variants.{At}
+use Rattle.lookup.specs.declared.Located.the-variants as located
 use Rattle.lookup.specs.Build.{lookupOf}
+use Rattle.neighbors.specs.declared.Reached.{Reached}
+use Rattle.neighbors.specs.declared.Reached.the-variants.{At, Absent}
 use Rattle.neighbors.specs.Neighbors.{after, tilted, distant, moved, leaves, unlessOwn, going}
 use Rattle.source.specs.Rust.{Option, None, Some}
 use Rattle.source.specs.Lookup as looked
 use Rattle.source.specs.Lookup.{find}
 use Rattle.source.specs.Neighbors.{otherThan, stepping}
-use Rattle.source_laws.specs.Drawn.{ported, entered}
+use Rattle.source_laws.specs.Drawn.{ported, reachedAs}
 use Rattle.source_laws.proofs.Turns.{cartesian-same}
 use Rattle.source_laws.proofs.Linked.{Holds, finds}
 use Rattle.source_laws.proofs.Built.{measuredTo, six-same}
@@ -28,21 +30,21 @@ abbrev pub InSet : ℕ → Option ℕ → Type 0
 InSet m None = Unit
 InSet m (Some k) = k < m
 
-pick-same : (b : Bool) (r : Located) (o : Option ℕ) → r ≡ At (entered o) → elim b [ true ↦ At 65535 | false ↦ r ] ≡ At (entered (cond b None o))
-pick-same true r o e = unfold entered in refl
+pick-same : (b : Bool) (r : Reached) (o : Option ℕ) → r ≡ reachedAs o → elim b [ true ↦ Absent | false ↦ r ] ≡ reachedAs (cond b None o)
+pick-same true r o e = refl
 pick-same false r o e = e
 
 pick-in : (b : Bool) (m : ℕ) (o : Option ℕ) → InSet m o → InSet m (cond b None o)
 pick-in true m o h = tt
 pick-in false m o h = h
 
-own-same : (own k : ℕ) (r : Located) (o : Option ℕ) → r ≡ At (entered o) → unlessOwn own (At k) r ≡ At (entered (otherThan own (Some k) o))
+own-same : (own k : ℕ) (r : Reached) (o : Option ℕ) → r ≡ reachedAs o → unlessOwn own (located.At k) r ≡ reachedAs (otherThan own (Some k) o)
 unfolding unlessOwn otherThan
 own-same own k r o e = go (eqb k own)
   where
-    go : (b : Bool) → cond b r (At k) ≡ At (entered (cond b o (Some k)))
+    go : (b : Bool) → cond b r (At k) ≡ reachedAs (cond b o (Some k))
     go true = e
-    go false = unfold entered in refl
+    go false = refl
 
 own-in : (own k m : ℕ) (o : Option ℕ) → k < m → InSet m o → InSet m (otherThan own (Some k) o)
 unfolding otherThan
@@ -82,7 +84,7 @@ module _ (xs : List Float) (n : ℕ) (small : suc n ≤ 16384) (left right : Lis
       ap (λ (p : Point3). cond (left-bounds built (there i .radius)) None (otherThan own (find built p) (searched k (i + 1 + 1)))) (cartesian-same (there i))
 
   abbrev Same : ℕ → ℕ → Type 0
-  Same k i = (going look (suc n) xs left right own from step k i ≡ At (entered (searched k (i + 1)))) × InSet (suc n) (searched k (i + 1))
+  Same k i = (going look (suc n) xs left right own from step k i ≡ reachedAs (searched k (i + 1))) × InSet (suc n) (searched k (i + 1))
 
   more : (k i : ℕ) → Same k (i + 1) → Same (suc k) i
   unfolding going
@@ -94,13 +96,13 @@ module _ (xs : List Float) (n : ℕ) (small : suc n ≤ 16384) (left right : Lis
       let x : searched (suc k) (i + 1) ≡ cond b None (otherThan own (Some (F .number)) o) =
       turn-is k i ∙ ap (λ (c : Bool). cond c None (otherThan own (find built (cartesianOf (there i))) o)) (leaves-same (there i .radius))
       ∙ ap (λ (z : Option ℕ). cond b None (otherThan own z o)) (F .in-source) in (
-        ap (λ (r : Located). elim b [ true ↦ At 65535 | false ↦ unlessOwn own r g ]) (F .in-port)
-            ∙ pick-same b (unlessOwn own (At (F .number)) g) (otherThan own (Some (F .number)) o) (own-same own (F .number) g o (ih .0))
-            ∙ ap (λ (z : Option ℕ). At (entered z)) (sym x),
+        ap (λ (r : Located). elim b [ true ↦ Absent | false ↦ unlessOwn own r g ]) (F .in-port)
+            ∙ pick-same b (unlessOwn own (located.At (F .number)) g) (otherThan own (Some (F .number)) o) (own-same own (F .number) g o (ih .0))
+            ∙ ap reachedAs (sym x),
         subst (InSet (suc n)) (sym x) (pick-in b (suc n) (otherThan own (Some (F .number)) o) (own-in own (F .number) (suc n) o (F .below) (ih .1))),
       )
 
   -- THE SAME NEIGHBOUR, and one of the set's
   pub steps-same : (k i : ℕ) → Same k i
-  steps-same zero i = unfold going stepping entered in (refl, tt)
+  steps-same zero i = unfold going stepping in (refl, tt)
   steps-same (suc k) i = more k i (steps-same k (i + 1))

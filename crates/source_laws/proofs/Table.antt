@@ -14,20 +14,26 @@ use Rattle.coords.specs.declared.Spherical.{Spherical}
 use Rattle.coords.specs.Coords.{sphericalOf}
 use Rattle.limits.specs.declared.Verdict.the-variants as verdict
 use Rattle.limits.specs.Allowed.{angleStepOk}
-use Rattle.lookup.specs.declared.Located.the-variants.{At}
 use Rattle.lookup.specs.Build.{lookupOf}
+use Rattle.neighbors.specs.declared.Reached.{Reached}
 use Rattle.neighbors.specs.Neighbors.{steps, stepOf, angleCap, capOf, going, directionOf, neighborOf, entryOf, tabledAs, tableOf}
-use Rattle.neighbors.proofs.Table.{all-answered}
-use Rattle.source.specs.Rust.{Option, Some, array}
+use Rattle.neighbors.proofs.Table.{Writes, writes-at, writes-absent, all-answered}
+use Rattle.source.specs.Rust.{Option, None, Some, array}
 use Rattle.source.specs.Coords.{«cartesian_to_spherical»}
 use Rattle.source.specs.Lookup.{triplet}
 use Rattle.source.specs.Neighbors.{Neighbors, defaultNeighbors, «max_steps», stepping, «search_direction», «find_neighbors», pushing, newNeighborhood, get}
-use Rattle.source_laws.specs.Drawn.{ported, hrtfOf, entered, sixth}
+use Rattle.source_laws.specs.Drawn.{ported, hrtfOf, reachedAs, entered, sixth}
 use Rattle.source_laws.proofs.Linked.{Holds}
 use Rattle.source_laws.proofs.Built.{measuredTo, point-here, inside}
 use Rattle.source_laws.proofs.Turns.{spherical-same}
 use Rattle.source_laws.proofs.Caps.{above-zero, abs-positive, abs-negated, phi-cap, theta-cap, radius-cap}
 use Rattle.source_laws.proofs.Steps.{InSet, steps-same}
+
+-- what the port writes of the source's answer
+writes-entered : (r : Reached) (o : Option ℕ) → r ≡ reachedAs o → Writes r (entered o)
+unfolding entered
+writes-entered r None e = writes-absent r _ e refl
+writes-entered r (Some k) e = writes-at r k k e refl
 
 module _ (xs : List Float) (n : ℕ) (small : suc n ≤ 16384) (left right : List ℕ) (h : Holds xs n left right) (angle radius : Float) (ok : angleStepOk angle ≡ true) where
   -- the source's six neighbours of a measurement
@@ -36,7 +42,7 @@ module _ (xs : List Float) (n : ℕ) (small : suc n ≤ 16384) (left right : Lis
 
   -- an entry and the source's answer
   abbrev pub Entry : ℕ → ℕ → Option ℕ → Type 0
-  Entry own d o = (neighborOf (lookupOf xs (suc n)) (suc n) xs left right angle radius own d ≡ At (entered o)) × InSet (suc n) o
+  Entry own d o = (neighborOf (lookupOf xs (suc n)) (suc n) xs left right angle radius own d ≡ reachedAs o) × InSet (suc n) o
 
   module _ (own : ℕ) where
     abbrev from : Spherical
@@ -90,9 +96,9 @@ module _ (xs : List Float) (n : ℕ) (small : suc n ≤ 16384) (left right : Lis
   abbrev pub entryAt : ℕ → ℕ
   entryAt k = entered (sixth (six (k / 6)) (k % 6))
 
-  entry-same : (k : ℕ) → entryOf (lookupOf xs (suc n)) (suc n) xs left right angle radius k ≡ At (entryAt k)
+  entry-same : (k : ℕ) → Writes (entryOf (lookupOf xs (suc n)) (suc n) xs left right angle radius k) (entryAt k)
   unfolding entryOf
-  entry-same k = six-same (k / 6) (k % 6) (omega arith) .0
+  entry-same k = writes-entered _ (sixth (six (k / 6)) (k % 6)) (six-same (k / 6) (k % 6) (omega arith) .0)
 
   -- THE WHOLE TABLE: no entry refuses, and the 6m entries are the source's
   pub table-same : (d : List ℕ) → 6 * suc n ≤ length d

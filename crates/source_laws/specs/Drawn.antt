@@ -7,6 +7,8 @@ use Rattle.kdtree.specs.declared.BoundingBox.{BoundingBox}
 use Rattle.kdtree.specs.Geometry.{nextAxis}
 use Rattle.kdtree.specs.Tree.{Tree, gone, bad, node}
 use Rattle.angles.specs.Says.{sinOf, cosOf, atan2Of}
+use Rattle.neighbors.specs.declared.Reached.{Reached}
+use Rattle.neighbors.specs.declared.Reached.the-variants.{At, Absent}
 use Rattle.source.specs.Rust.{Option, None, Some, Angles}
 use Rattle.source.specs.Lookup.{Hrtf}
 use Rattle.source.specs.Neighbors.{Neighbors}
@@ -43,6 +45,11 @@ hrtfOf m r n xs responses delays rate = record {
   «data_delay» = delays;
   «sample_rate» = rate;
 }
+
+-- an Option as what the port's search of a direction answers
+abbrev pub reachedAs : Option ℕ → Reached
+reachedAs None = Absent
+reachedAs (Some k) = At k
 
 -- an Option as an entry of the port's table: 65535 for None
 unfoldable pub entered : Option ℕ → ℕ

@@ -3,8 +3,7 @@ use mathlib.Core.Path.{sym, ap, _∙_}
 use denote.Ref.{now}
 use Rattle.limits.specs.declared.Sizes.{Sizes}
 use Rattle.lookup.specs.Lookup.{findOf}
-use Rattle.loads.specs.Load.{numberIn}
-use Rattle.answers.specs.Answers.{nearestOf}
+use Rattle.answers.specs.Answers.{numberIn, nearestOf}
 use borrow.Author.Needs.{needs}
 use Rattle.answers.proofs.nearest.Statement.{statement}
 use Rattle.answers.proofs.nearest.Tie as tie

@@ -1,4 +1,5 @@
 use mathlib.Core.Path.{_≡_, refl, ap, _∙_}
+use mathlib.Core.Logic.{⊎-elim}
 use Prim.Native.Nat.{ℕ, suc, _+_, _*_, _-_, _≤_}
 use native.Mathlib.Omega.{arith}
 use lib.ListN.{length, length-set, set}
@@ -44,14 +45,24 @@ search-direction-requires c κs =
     let h = c .before .before .before .before .before .before .before .before .before .before .pre in
     (h .0, h .1, h .2, h .3, h .4, h .6)
 
+-- what the search answers is the entry at its place
+is-entry : (c : tie.After-search-direction Inv-loop μ-loop) → (let l = c .before .before .before .before in
+    let a = l .before .before .before .before .before .before .before .args in
+    c .search-direction .result ≡ entryOf (a .look) (a .m) (now (a .cartesian)) (now (a .left)) (now (a .right)) (a .angle-step) (a .radius-step) (6 * a .own + l .loop .d))
+is-entry c =
+    let l = c .before .before .before .before in
+    let a = l .before .before .before .before .before .before .before .args in
+    table.entry-is (a .look) (a .m) (now (a .cartesian)) (now (a .left)) (now (a .right)) (a .angle-step) (a .radius-step) (a .own) (l .loop .d) (c .before .before .before .loop-test .taken)
+    _ _ _ _ (l .before .before .point-at .ensures) (l .before .cartesian-to-spherical .ensures) (c .before .before .step-along .ensures) (c .before .max-steps .ensures) _ (c .search-direction .ensures)
+
 enum-known-found : tie.Need-enum-known-found Inv-loop μ-loop
 enum-known-found c = search needs
 
 enum-told : tie.Need-enum-told Inv-loop μ-loop
 enum-told c = search needs
 
-verdict-requires : tie.Need-verdict-requires Inv-loop μ-loop
-verdict-requires c κs = search needs
+enum-known-found-2 : tie.Need-enum-known-found-2 Inv-loop μ-loop
+enum-known-found-2 c = search needs
 
 same-length : tie.Need-same-length Inv-loop μ-loop
 same-length c = c .before .before .before .before .before .before .before .loop .inv .1
@@ -59,66 +70,67 @@ same-length c = c .before .before .before .before .before .before .before .loop 
 returns : tie.Need-returns Inv-loop μ-loop
 unfolding rowOf
 returns c =
-    let a = c .before .before .before .before .before .before .before .before .before .before .before .before .before .before .args in
-    let l = c .before .before .before .before .before .before .before .loop in
+    let z = c .before .before .before in
+    let a = z .before .before .before .before .before .before .before .before .before .before .before .args in
+    let l = z .before .before .before .before .loop in
     let d = l .d in
-    let t = c .before .before .before .before .before .before .loop-test .taken in
-    let k = 6 * a .own + d in
+    let t = z .before .before .before .loop-test .taken in
     let j = 6 - d in
     let i = 6 - (d + 1) in
     let ej : j ≡ suc i = omega (arith, t) in
-    let e = table.entry-is (a .look) (a .m) (now (a .cartesian)) (now (a .left)) (now (a .right)) (a .angle-step) (a .radius-step) (a .own) d t (c .before .before .before .before .before .before .before .before .before .point-at .result) (c .before .before .before .before .before .before .before .before .cartesian-to-spherical .result) (c .before .before .before .before .before .step-along .result) (c .before .before .before .before .max-steps .result)
-    (c .before .before .before .before .before .before .before .before .before .point-at .ensures) (c .before .before .before .before .before .before .before .before .cartesian-to-spherical .ensures) (c .before .before .before .before .before .step-along .ensures) (c .before .before .before .before .max-steps .ensures) (c .before .before .before .search-direction .result) (c .before .before .before .search-direction .ensures) in
-    table.refused (entryOf (a .look) (a .m) (now (a .cartesian)) (now (a .left)) (now (a .right)) (a .angle-step) (a .radius-step)) j i k _ ej _ e _ _ (c .before .enum-told .given .1) _ (c .verdict .ensures) ∙ l .inv .2
+    table.refused (entryOf (a .look) (a .m) (now (a .cartesian)) (now (a .left)) (now (a .right)) (a .angle-step) (a .radius-step)) j i (6 * a .own + d) _ ej _ (is-entry z) _ _ (c .before .found2 .given .1) ∙ l .inv .2
+
+-- what the two other arms come to
+is-written : (c : tie.At-match-came Inv-loop μ-loop) → table.Writes (c .before .search-direction .result) (c .match .entry)
+is-written c = ⊎-elim (λ w. table.writes-at _ _ _ (w .1 .given .1) (w .3)) (λ w. table.writes-absent _ _ (w .1 .given .1) (w .2)) (c .match .came)
 
 mul-neighbors : tie.Need-mul-neighbors Inv-loop μ-loop
 mul-neighbors c =
-    let h = c .before .before .before .before .before .before .before .before .before .before .before .before .before .before .pre in
-    let t = c .before .before .before .before .before .before .loop-test .taken in
+    let h = c .before .before .before .before .before .before .before .before .before .before .before .before .pre in
+    let t = c .before .before .before .before .loop-test .taken in
     omega (arith, t, h .0, h .4)
 
 add-neighbors : tie.Need-add-neighbors Inv-loop μ-loop
 add-neighbors c =
-    let h = c .before .before .before .before .before .before .before .before .before .before .before .before .before .before .pre in
-    let t = c .before .before .before .before .before .before .loop-test .taken in
+    let h = c .before .before .before .before .before .before .before .before .before .before .before .before .pre in
+    let t = c .before .before .before .before .loop-test .taken in
     omega (arith, t, h .0, h .4)
 
 mul-neighbors-2 : tie.Need-mul-neighbors-2 Inv-loop μ-loop
 mul-neighbors-2 c =
-    let h = c .before .before .before .before .before .before .before .before .before .before .before .before .before .before .pre in
-    let t = c .before .before .before .before .before .before .loop-test .taken in
+    let h = c .before .before .before .before .before .before .before .before .before .before .before .before .pre in
+    let t = c .before .before .before .before .loop-test .taken in
     omega (arith, t, h .0, h .4)
 
 slice-write-neighbors : tie.Need-slice-write-neighbors Inv-loop μ-loop
 slice-write-neighbors c =
-    let h = c .before .before .before .before .before .before .before .before .before .before .before .before .before .before .pre in
-    let t = c .before .before .before .before .before .before .loop-test .taken in
-    let g = c .before .before .before .before .before .before .before .loop .inv .1 in
+    let h = c .before .before .before .before .before .before .before .before .before .before .before .before .pre in
+    let t = c .before .before .before .before .loop-test .taken in
+    let g = c .before .before .before .before .before .loop .inv .1 in
     omega (arith, t, g, h .0, h .5)
 
 add-d : tie.Need-add-d Inv-loop μ-loop
-add-d c = let t = c .before .before .before .before .before .before .loop-test .taken in omega (arith, t)
+add-d c = let t = c .before .before .before .before .loop-test .taken in omega (arith, t)
 
 loop-less : tie.Need-loop-less Inv-loop μ-loop
-loop-less c = let t = c .before .before .before .before .before .before .loop-test .taken in omega (arith, t)
+loop-less c = let t = c .before .before .before .before .loop-test .taken in omega (arith, t)
 
 loop-again : tie.Need-loop-again Inv-loop μ-loop
 loop-again c =
-    let a = c .before .before .before .before .before .before .before .before .before .before .before .before .before .before .args in
-    let l = c .before .before .before .before .before .before .before .loop in
+    let z = c .before in
+    let a = z .before .before .before .before .before .before .before .before .before .before .before .args in
+    let l = z .before .before .before .before .loop in
     let d = l .d in
-    let t = c .before .before .before .before .before .before .loop-test .taken in
+    let t = z .before .before .before .loop-test .taken in
     let k = 6 * a .own + d in
     let j = 6 - d in
     let i = 6 - (d + 1) in
     let ej : j ≡ suc i = omega (arith, t) in
-    let e = table.entry-is (a .look) (a .m) (now (a .cartesian)) (now (a .left)) (now (a .right)) (a .angle-step) (a .radius-step) (a .own) d t (c .before .before .before .before .before .before .before .before .before .point-at .result) (c .before .before .before .before .before .before .before .before .cartesian-to-spherical .result) (c .before .before .before .before .before .step-along .result) (c .before .before .before .before .max-steps .result)
-    (c .before .before .before .before .before .before .before .before .before .point-at .ensures) (c .before .before .before .before .before .before .before .before .cartesian-to-spherical .ensures) (c .before .before .before .before .before .step-along .ensures) (c .before .before .before .before .max-steps .ensures) (c .before .before .before .search-direction .result) (c .before .before .before .search-direction .ensures) in
     let f : 6 * a .own + (d + 1) ≡ k + 1 = omega arith in (
       omega (arith, t),
       simp length-set (l .inv .1),
-      ap (λ (n : ℕ). writing (entryOf (a .look) (a .m) (now (a .cartesian)) (now (a .left)) (now (a .right)) (a .angle-step) (a .radius-step)) i n (set (l .neighbors) k (c .before .found .given .0 .0))) f
-          ∙ table.on (entryOf (a .look) (a .m) (now (a .cartesian)) (now (a .left)) (now (a .right)) (a .angle-step) (a .radius-step)) j i k (l .neighbors) ej _ e _ (c .before .found .given .1) ∙ l .inv .2,
+      ap (λ (n : ℕ). writing (entryOf (a .look) (a .m) (now (a .cartesian)) (now (a .left)) (now (a .right)) (a .angle-step) (a .radius-step)) i n (set (l .neighbors) k (c .match .entry))) f
+          ∙ table.on (entryOf (a .look) (a .m) (now (a .cartesian)) (now (a .left)) (now (a .right)) (a .angle-step) (a .radius-step)) j i k (l .neighbors) ej _ (is-entry z) _ (is-written c) ∙ l .inv .2,
     )
 
 same-length-2 : tie.Need-same-length-2 Inv-loop μ-loop
@@ -133,4 +145,4 @@ returns-2 c =
     table.at-end (entryOf (a .look) (a .m) (now (a .cartesian)) (now (a .left)) (now (a .right)) (a .angle-step) (a .radius-step)) (6 - l .d) (6 * a .own + l .d) _ e ∙ l .inv .2
 
 pub find-neighbors-spec : {M : Type 1} → statement M
-find-neighbors-spec = tie.close (tie.spec Inv-loop μ-loop point-at-requires cartesian-to-spherical-requires cast-number loop-holds step-along-requires max-steps-requires search-direction-requires enum-known-found enum-told verdict-requires same-length returns mul-neighbors add-neighbors mul-neighbors-2 slice-write-neighbors add-d loop-less loop-again same-length-2 returns-2)
+find-neighbors-spec = tie.close (tie.spec Inv-loop μ-loop point-at-requires cartesian-to-spherical-requires cast-number loop-holds step-along-requires max-steps-requires search-direction-requires enum-known-found enum-told enum-known-found-2 same-length returns mul-neighbors add-neighbors mul-neighbors-2 slice-write-neighbors add-d loop-less loop-again same-length-2 returns-2)

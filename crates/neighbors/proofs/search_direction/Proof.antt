@@ -61,19 +61,22 @@ enum-known-found c = search needs
 enum-told : tie.Need-enum-told Inv-loop μ-loop
 enum-told c = search needs
 
+pass-on-requires : tie.Need-pass-on-requires Inv-loop μ-loop
+pass-on-requires c κs = search needs
+
 returns-2 : tie.Need-returns-2 Inv-loop μ-loop
 returns-2 c =
-    let a = c .before .before .before .before .before .before .before .before .before .before .before .before .before .before .args in
-    let l = c .before .before .before .before .before .before .before .before .before .before .loop in
+    let a = c .before .before .before .before .before .before .before .before .before .before .before .before .before .before .before .args in
+    let l = c .before .before .before .before .before .before .before .before .before .before .before .loop in
     let i = l .i in
-    let t = c .before .before .before .before .before .before .before .before .before .loop-test .taken in
-    let z = c .before .before .before .before .before .before .before .before .step-to in
+    let t = c .before .before .before .before .before .before .before .before .before .before .loop-test .taken in
+    let z = c .before .before .before .before .before .before .before .before .before .step-to in
     let k = a .cap - i in
     let j = a .cap - (i + 1) in
     let ek : k ≡ suc j = omega (arith, t) in
     let h : i + 1 ≤ 4294967296 = let g = l .inv .1 in omega (arith, t, g) in
-    let q = search.point-is (a .from) (a .step) i h (z .result) (z .ensures) (l .phi) (l .theta) (l .inv .3) (l .inv .4) (c .before .before .before .before .before .turned .result) (c .before .before .before .before .turned2 .result) (c .before .before .before .before .before .turned .ensures) (c .before .before .before .before .turned2 .ensures) (c .before .before .before .along .result) (c .before .before .before .along .ensures) in
-    search.refused (a .look) (a .m) (now (a .cartesian)) (now (a .left)) (now (a .right)) (a .own) (a .from) (a .step) k j i ek (z .result) (z .ensures) (sym (c .before .before .before .before .before .before .before .has-left .ensures) ∙ c .before .before .before .before .before .before .if1 .left) (c .before .before .before .along .result) q (c .before .before .locate-around .result) (c .before .before .locate-around .ensures) _ _ (c .enum-told .given .1) ∙ l .inv .2
+    let q = search.point-is (a .from) (a .step) i h (z .result) (z .ensures) (l .phi) (l .theta) (l .inv .3) (l .inv .4) (c .before .before .before .before .before .before .turned .result) (c .before .before .before .before .before .turned2 .result) (c .before .before .before .before .before .before .turned .ensures) (c .before .before .before .before .before .turned2 .ensures) (c .before .before .before .before .along .result) (c .before .before .before .before .along .ensures) in
+    search.refused (a .look) (a .m) (now (a .cartesian)) (now (a .left)) (now (a .right)) (a .own) (a .from) (a .step) k j i ek (z .result) (z .ensures) (sym (c .before .before .before .before .before .before .before .before .has-left .ensures) ∙ c .before .before .before .before .before .before .before .if1 .left) (c .before .before .before .before .along .result) q (c .before .before .before .locate-around .result) (c .before .before .before .locate-around .ensures) _ _ (c .before .enum-told .given .1) (c .pass-on .result) (c .pass-on .ensures) ∙ l .inv .2
 
 returns-3 : tie.Need-returns-3 Inv-loop μ-loop
 returns-3 c =
@@ -122,4 +125,4 @@ returns-4 c =
     search.at-end (a .look) (a .m) (now (a .cartesian)) (now (a .left)) (now (a .right)) (a .own) (a .from) (a .step) (a .cap - l .i) (l .i) e ∙ l .inv .2
 
 pub search-direction-spec : {M : Type 1} → statement M
-search-direction-spec = tie.close (tie.spec Inv-loop μ-loop loop-holds add-step-to step-to-requires has-left-requires returns turned-requires turned-requires-2 along-requires locate-around-requires enum-known-found enum-told returns-2 returns-3 add-i loop-less loop-again returns-4)
+search-direction-spec = tie.close (tie.spec Inv-loop μ-loop loop-holds add-step-to step-to-requires has-left-requires returns turned-requires turned-requires-2 along-requires locate-around-requires enum-known-found enum-told pass-on-requires returns-2 returns-3 add-i loop-less loop-again returns-4)
