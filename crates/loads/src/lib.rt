@@ -21,7 +21,8 @@ pub enum Loaded {
     Refused(u32, usize),
 }
 
-// The Cartesian positions of a set; the list that they are written to is as long as the positions are.
+// The Cartesian positions of a set; the list that they are written to is as long as the positions are. A load lets no kind pass but 0,
+// cartesian, and 1, spherical.
 fn place(kind: u32, positions: &[f32], cartesian: &mut [f32])
     requires { ⌜ length (now positions) ≡ length (now cartesian) ⌝ }
     ensures { λ _. ⌜ now (cartesian .exit) ≡ cartesianFrom kind (now (positions .entry)) ⌝ }
