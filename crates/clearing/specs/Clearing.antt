@@ -9,19 +9,13 @@ use Rattle.floats.specs.Floats.{absOf}
 use Rattle.points.specs.declared.Point3.{Point3}
 use Rattle.points.specs.Points.{gap, pointAt, distSq}
 use Rattle.kdtree.specs.declared.BoundingBox.{BoundingBox}
-use Rattle.kdtree.specs.Geometry.{byAxis, coordOf, nextAxis, boxAt, withMin, withMax}
+use Rattle.kdtree.specs.Geometry.{coordOf, nextAxis, boxAt, minAt, maxAt, withMin, withMax}
 use Rattle.kdtree.specs.Tree.{Tree, gone, bad, node}
 use Rattle.clearing.specs.declared.Clearing.{Clearing}
 use Rattle.clearing.specs.declared.Kept.{Kept}
 use Rattle.clearing.specs.declared.Nearest.{Nearest}
 
 -- ---- open boxes
-
-unfoldable pub minAt : BoundingBox → ℕ → Float
-minAt b n = byAxis n (b .«min_x») (b .«min_y») (b .«min_z»)
-
-unfoldable pub maxAt : BoundingBox → ℕ → Float
-maxAt b n = byAxis n (b .«max_x») (b .«max_y») (b .«max_z»)
 
 abbrev pub between : Float → Float → Float → Bool
 between lo hi x = lt lo x && lt x hi

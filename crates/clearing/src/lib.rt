@@ -18,7 +18,7 @@ ghost use lib.Dec.{ltb};
 ghost use lib.ListN.{length};
 ghost use Rattle.kdtree.specs.Tree.{subtree};
 ghost use Rattle.points.specs.Points.{pointAt, distSq};
-ghost use Rattle.clearing.specs.Clearing.{minAt, maxAt, between, holds, farAxis, drawnIn, heldIn, met, reaches, cleared, none, clearingOf, reachAfter, nearerThanFaces, aloneIn, nearer, entries, nearestIn};
+ghost use Rattle.clearing.specs.Clearing.{between, holds, farAxis, drawnIn, heldIn, met, reaches, cleared, none, clearingOf, reachAfter, nearerThanFaces, aloneIn, nearer, entries, nearestIn};
 
 const MOST: usize = 24;
 
@@ -33,26 +33,6 @@ pub struct Clearing {
 struct Kept {
     faces: BoundingBox,
     count: usize,
-}
-
-fn min_at(b: BoundingBox, axis: u8) -> f32
-    ensures { λ r. ⌜ r ≡ minAt b axis ⌝ }
-{
-    match axis {
-        0 => b.min_x,
-        1 => b.min_y,
-        _ => b.min_z,
-    }
-}
-
-fn max_at(b: BoundingBox, axis: u8) -> f32
-    ensures { λ r. ⌜ r ≡ maxAt b axis ⌝ }
-{
-    match axis {
-        0 => b.max_x,
-        1 => b.max_y,
-        _ => b.max_z,
-    }
 }
 
 fn is_between(lo: f32, hi: f32, x: f32) -> bool
@@ -124,9 +104,9 @@ fn goes_past(on_left: bool, b: BoundingBox, axis: u8, v: f32) -> bool
     ensures { λ r. ⌜ r ≡ reaches «on_left» b axis v ⌝ }
 {
     if on_left {
-        !(max_at(b, axis) <= v)
+        !(b.max_at(axis) <= v)
     } else {
-        min_at(b, axis) < v
+        b.min_at(axis) < v
     }
 }
 

@@ -18,7 +18,7 @@ use Rattle.kdtree.specs.declared.Searched.{Searched}
 use Rattle.kdtree.specs.declared.Searched.the-variants.{Found, Stopped}
 use Rattle.kdtree.specs.Tree.{Tree, subtree}
 use Rattle.kdtree.specs.Search as pruned
-use Rattle.kdtree.specs.Nearest.{placeOf, startOf}
+use Rattle.kdtree.specs.Nearest.{startAt, startOf, foundFrom, placeOf}
 use Rattle.kdtree.specs.Unpruned.{Pick, pickOf, Item, walk, order, size}
 use Rattle.kdtree.proofs.Nodes.{All}
 use Rattle.walks.specs.Demand3.{Numbered}
@@ -149,7 +149,7 @@ module _ (xs : List Float) (k : ℕ) (d : Links) (room : Room xs (suc k) d) (own
 
         -- and by the search, whose box is the one built
         agrees : Agrees found (0 + size t) (placeOf xs left right m (boxOf xs m) q)
-        unfolding placeOf startOf pickOf boxOf built.rect
+        unfolding foundFrom startAt pickOf boxOf built.rect
         agrees =
             let cl = root-clean left right xs m t 0 (F .rep) in
             let z = F .whole in

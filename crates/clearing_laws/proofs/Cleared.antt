@@ -12,12 +12,12 @@ use Rattle.floats.proofs.Cross.{of-taken, of-left}
 use Rattle.floats.proofs.Preorder.{lt-irrefl-f, lt-trans-f, lt-le-trans}
 use Rattle.points.specs.declared.Point3.{Point3}
 use Rattle.kdtree.specs.declared.BoundingBox.{BoundingBox}
-use Rattle.kdtree.specs.Geometry.{byAxis, coordOf, nextAxis, withMin, withMax}
+use Rattle.kdtree.specs.Geometry.{byAxis, coordOf, nextAxis, withMin, withMax, minAt, maxAt}
 use Rattle.kdtree.specs.Tree.{Tree, gone, bad, node}
 use Rattle.kdtree.proofs.Nodes.{All}
 use Rattle.walks.proofs.Sides.{Sorted, all-map}
 use Rattle.clearing.specs.declared.Clearing.{Clearing}
-use Rattle.clearing.specs.Clearing.{minAt, maxAt, between, holds, farAxis, drawnIn, most, listed, faced, around, met, reaches, cleared}
+use Rattle.clearing.specs.Clearing.{between, holds, farAxis, drawnIn, most, listed, faced, around, met, reaches, cleared}
 
 -- ---- outside of an open box: not past one of its faces, to the inside, on some axis
 

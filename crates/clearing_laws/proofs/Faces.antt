@@ -14,9 +14,9 @@ use Rattle.points.specs.Points.{gap, distSq}
 use Rattle.kdtree.specs.declared.BoundingBox.{BoundingBox}
 use Rattle.kdtree.proofs.Space.{lt-most}
 use Rattle.kdtree.proofs.NanStart.{lt-least}
-use Rattle.kdtree.specs.Geometry.{byAxis, coordOf, boxAt, outside, boxDistSq, withMin, withMax}
+use Rattle.kdtree.specs.Geometry.{byAxis, coordOf, boxAt, outside, boxDistSq, withMin, withMax, minAt, maxAt}
 use Rattle.walks.proofs.Box.{Between, Inside, box-under, from-zero}
-use Rattle.clearing.specs.Clearing.{minAt, maxAt, between, nearerThanFaces, aloneIn, none}
+use Rattle.clearing.specs.Clearing.{between, nearerThanFaces, aloneIn, none}
 use Rattle.clearing_laws.proofs.Cleared.{Out}
 
 -- ---- nothing is beyond infinity

@@ -6,7 +6,7 @@ use Rattle.kdtree.specs.Geometry.{byAxis, coordOf, nextAxis, outside, boxDistSq
 use Rattle.kdtree.specs.Tree.{linkOf, sideOf, subtree}
 use Rattle.kdtree.specs.Search.{improve, visited, nearerBox, fartherBox, farther, afterNear, search}
 use Rattle.kdtree.specs.Insert.{sideSlot, slotIn, written, linkedLeft, linkedRight, bySlot, insertOf}
-use Rattle.kdtree.specs.Nearest.{startOf, placeOf, numberOf, nearestOf}
+use Rattle.kdtree.specs.Nearest.{startAt, foundFrom, numberOf, nearestOf}
 use Rattle.lists.specs.Each.{Each}
 use Rattle.walks.specs.Demand3.{kept, fill}
 use Rattle.root.specs.Root.{rootOf}
@@ -17,5 +17,5 @@ use Rattle.neighbors.specs.Neighbors.{angleCap}
 use Rattle.examples.specs.Table.{blank, Holds, rows}
 
 pub table : Each Holds rows
-unfolding kept fill blank ofBits add sub mul neg lt le eq byAxis coordOf nextAxis distSq outside boxDistSq boxAt grown withMin withMax goesLeft leftFirst pointAt linkOf sideOf subtree improve visited nearerBox fartherBox farther afterNear search sideSlot slotIn written linkedLeft linkedRight bySlot insertOf startOf placeOf numberOf nearestOf div rootOf radiusOf scaled clampedTo ceilOf angleCap
+unfolding kept fill blank ofBits add sub mul neg lt le eq byAxis coordOf nextAxis distSq outside boxDistSq boxAt grown withMin withMax goesLeft leftFirst pointAt linkOf sideOf subtree improve visited nearerBox fartherBox farther afterNear search sideSlot slotIn written linkedLeft linkedRight bySlot insertOf startAt foundFrom numberOf nearestOf div rootOf radiusOf scaled clampedTo ceilOf angleCap
 table = (refl, (refl, (refl, (refl, (refl, (refl, (refl, (refl, (refl, (refl, (refl, (refl, (refl, tt)))))))))))))

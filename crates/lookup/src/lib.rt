@@ -159,7 +159,7 @@ impl Lookup {
         requires { ⌜ (0 < m) × (3 * m ≤ length (now cartesian)) × (m ≤ length (now left)) × (m ≤ length (now right)) × (m ≤ 16384) ⌝ }
         ensures { λ r. ⌜ r ≡ locatedAs (placeOf (now (cartesian .entry)) (now (left .entry)) (now (right .entry)) m (self .bounds) p) ⌝ }
     {
-        let searched = kdtree::nearest_place(m, self.bounds, cartesian, left, right, p);
+        let searched = kdtree::nearest_place(m, 0, self.bounds, cartesian, left, right, p);
         let Searched::Found(best) = searched else {
             return Located::Refused(9, 0);
         };

@@ -26,7 +26,7 @@ use Rattle.kdtree.specs.Tree.{Tree, subtree}
 use Rattle.kdtree.specs.Search.{search}
 use Rattle.kdtree.specs.Unpruned.{size}
 use Rattle.kdtree.specs.Insert.{Lists, listsOf, Stored, storedAs, written, linkedLeft, linkedRight, bySlot, insertOf}
-use Rattle.kdtree.specs.Nearest.{startOf, placeOf}
+use Rattle.kdtree.specs.Nearest.{startAt, startOf, foundFrom, placeOf}
 use Rattle.kdtree.proofs.Nodes.{subtree-below, found-below}
 use Rattle.kdtree.proofs.Whole as whole
 use Rattle.walks.specs.Demand3.{Numbered, Bare, kept, fill, insertInto, Accepted}
@@ -250,15 +250,15 @@ module _ (xs : List Float) (m : ℕ) (d : Links) (room : Room xs m d) where
         s = startOf xs q
 
         start-small : s .visits + size (F .tree) ≤ m
-        start-small = unfold startOf in let z = F .whole in omega arith
+        start-small = unfold startAt in let z = F .whole in omega arith
 
         from : search m q (F .tree) b 0 s ≡ placeOf xs (links m .left) (links m .right) m b q
-        from = unfold placeOf in ap (λ (t : Tree). search m q t b 0 s) (sym (rep-at (links m .left) (links m .right) xs m (F .small) (F .tree) 0 m (omega arith) (F .rep)))
+        from = unfold foundFrom in ap (λ (t : Tree). search m q t b 0 s) (sym (rep-at (links m .left) (links m .right) xs m (F .small) (F .tree) 0 m (omega arith) (F .rep)))
 
         small : (r : Best) → placeOf xs (links m .left) (links m .right) m b q ≡ Found r → r .place < m
         small r e =
             let z = room .some in
-            unfold placeOf startOf in found-below m m q (subtree (links m .left) (links m .right) xs m m 0) b 0 s r (subtree-below (links m .left) (links m .right) xs m m 0 z) z (sym e)
+            unfold foundFrom startAt in found-below m m q (subtree (links m .left) (links m .right) xs m m 0) b 0 s r (subtree-below (links m .left) (links m .right) xs m m 0 z) z (sym e)
 
         go : (w : Searched) → w ≡ placeOf xs (links m .left) (links m .right) m b q → WithinVisits (s .visits + size (F .tree)) w → Placed
         go (Found r) e v = record { best = r; is = sym e; below = small r (sym e) }

@@ -10,7 +10,7 @@ use Rattle.kdtree.specs.declared.Best.{Best}
 use Rattle.kdtree.specs.declared.Searched.{Searched}
 use Rattle.kdtree.specs.declared.Searched.the-variants.{Found, Stopped}
 use Rattle.kdtree.specs.Tree.{subtree}
-use Rattle.kdtree.specs.Nearest.{placeOf, startOf}
+use Rattle.kdtree.specs.Nearest.{startAt, startOf, foundFrom, placeOf}
 use Rattle.kdtree.proofs.Nodes.{found-below, subtree-below}
 use Rattle.lookup.specs.declared.Lookup.{Lookup}
 use Rattle.lookup.specs.declared.Located.{Located}
@@ -18,7 +18,7 @@ use Rattle.lookup.specs.declared.Located.the-variants.{At, Refused}
 use Rattle.lookup.specs.Lookup.{clampedBy, locatedAs, locateOf}
 
 place-below : (m : ℕ) (xs : List Float) (left right : List ℕ) (b : BoundingBox) (q : Point3) (s : Best) → 0 < m → Found s ≡ placeOf xs left right m b q → s .place < m
-unfolding placeOf startOf
+unfolding foundFrom startAt
 place-below m xs left right b q s h e = found-below m m q (subtree left right xs m m 0) b 0 (startOf xs q) s (subtree-below left right xs m m 0 h) h e
 
 -- the number of an answer

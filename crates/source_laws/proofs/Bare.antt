@@ -13,7 +13,7 @@ use Rattle.kdtree.specs.Geometry.{grown}
 use Rattle.kdtree.specs.Tree.{Tree, subtree}
 use Rattle.kdtree.specs.Search.{search}
 use Rattle.kdtree.specs.Insert.{Lists}
-use Rattle.kdtree.specs.Nearest.{startOf, placeOf, numberOf}
+use Rattle.kdtree.specs.Nearest.{startOf, foundFrom, numberOf}
 use Rattle.kdtree.proofs.Whole as whole
 use Rattle.walks.specs.Demand3.{Numbered, Bare, empty, fill, RoomFor, nearestIn, searchIn, treeIn}
 use Rattle.walks.proofs.Pruned.{Clean}
@@ -140,7 +140,7 @@ module _ (t : Bare) (k : KdTree) (W : Whole t k) where
   named-by None w e = absurd e
 
   searched : (q : Point3) → searchIn t q ≡ search (t .count) q tr (flat (H .box)) 0 (startOf (t .lists .positions) q)
-  unfolding placeOf
+  unfolding foundFrom
   searched q =
       ap (λ (z : Tree). search (t .count) q z (t .bounds) 0 (startOf (t .lists .positions) q))
       drawn-tree

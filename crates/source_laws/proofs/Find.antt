@@ -11,7 +11,7 @@ use Rattle.kdtree.specs.declared.Searched.the-variants.{Found, Stopped}
 use Rattle.kdtree.specs.Geometry.{nextAxis}
 use Rattle.kdtree.specs.Tree.{Tree, gone, bad, node}
 use Rattle.kdtree.specs.Search.{search}
-use Rattle.kdtree.specs.Nearest.{startOf}
+use Rattle.kdtree.specs.Nearest.{startAt, startOf}
 use Rattle.kdtree.specs.Unpruned.{size}
 use Rattle.coords.specs.Coords.{radiusOf}
 use Rattle.walks.proofs.Pruned.{Clean}
@@ -43,7 +43,7 @@ module _ (number : ℕ → ℕ) (left right : List ℕ) (xs : List Float) (count
 
   pub nearest-names : (t : Tree) → RepAt left right xs count t 0 → Clean t → size t ≡ count
       → Names number (nearestFrom (boxed number t 0) (Some b) q) (search count q t (flat b) 0 (startOf xs q))
-  unfolding boxed nearestFrom «nearest_rec» startOf
+  unfolding boxed nearestFrom «nearest_rec» startAt
   nearest-names gone r c e = r
   nearest-names bad r c e = r
   nearest-names (node n p l r) h c e =

@@ -22,7 +22,7 @@ use Rattle.kdtree.specs.Tree.{Tree, gone, bad, node}
 use Rattle.kdtree.specs.Search.{search}
 use Rattle.kdtree.specs.Unpruned.{Pick, pickOf, Item, walk, order, size}
 use Rattle.kdtree.specs.Insert.{Lists, Stored}
-use Rattle.kdtree.specs.Nearest.{startOf, placeOf, numberOf}
+use Rattle.kdtree.specs.Nearest.{startAt, startOf, foundFrom, numberOf}
 use Rattle.kdtree.proofs.Nodes.{All}
 use Rattle.kdtree.proofs.Whole as whole
 use Rattle.lists.specs.Each.{Each, In}
@@ -265,7 +265,7 @@ module _ (a : Lists) (b : BoundingBox) (m : Numbered) (ms : List Numbered) (room
 
     -- the pruned search agrees with the unpruned walk, whatever the floats
     agrees : Agrees (walk q (treeIn tree) 0 start) (tree .count) (searchIn tree q)
-    unfolding placeOf startOf pickOf
+    unfolding foundFrom startAt pickOf
     agrees =
         let c = root-clean (tree .lists .left) (tree .lists .right) (tree .lists .positions) (tree .count) (F .tree) 0 (F .rep) in
         let s : Best = startOf (tree .lists .positions) q in
