@@ -12,14 +12,25 @@ use Rattle.floats.proofs.Preorder.{lt-irrefl-f, lt-trans-f, number, lt-numbers,
 use Rattle.points.specs.declared.Point3.{Point3}
 use Rattle.points.specs.Points.{gap, distSq}
 use Rattle.kdtree.specs.declared.BoundingBox.{BoundingBox}
-use Rattle.kdtree.proofs.Space.{lt-most}
-use Rattle.kdtree.proofs.NanStart.{lt-least}
 use Rattle.kdtree.specs.Geometry.{byAxis, coordOf, boxAt, outside, boxDistSq, withMin, withMax, minAt, maxAt}
 use Rattle.walks.proofs.Box.{Between, Inside, box-under, from-zero}
 use Rattle.clearing.specs.Clearing.{between, nearerThanFaces, aloneIn, none}
 use Rattle.clearing_laws.proofs.Cleared.{Out}
 
 -- ---- nothing is beyond infinity
+
+lt-most : (x : Float) → lt (inf false) x ≡ false
+unfolding lt
+lt-most nan = refl
+lt-most (inf s) = refl
+lt-most (fin s m e) = refl
+
+lt-least : (x : Float) → lt x (inf true) ≡ false
+unfolding lt
+lt-least nan = refl
+lt-least (inf true) = refl
+lt-least (inf false) = refl
+lt-least (fin s m e) = refl
 
 -- all of space
 unfoldable pub everywhere : BoundingBox
