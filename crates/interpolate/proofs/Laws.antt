@@ -1,14 +1,15 @@
--- The points in four places against the list of points, a pair's closest, the delay rule, and the ways through the blend. Assumes nothing.
+-- The entries as they are met, the points in four places against the list of points, a pair's closest, the delay rule, and the ways through the
+-- blend. Assumes nothing.
 use Prim.Native.Nat.{ℕ, zero, suc, _+_, _-_, _*_, _≤_, _<_}
-use mathlib.Core.Path.{_≡_, refl, sym, ap, _∙_}
+use mathlib.Core.Path.{_≡_, refl, sym, ap, subst, _∙_}
 use mathlib.Core.Bool.{Bool, true, false, cond, _&&_}
 use mathlib.Core.List.{List, [], _∷_, _++_, map}
 use native.Mathlib.Nat.{mul-le-mul-right, suc-mul, mul-le-mul}
 use native.Mathlib.Omega.{arith}
 use lib.Dec.{leb, eqb, ltb}
-use lib.ListN.{length, take, replicate}
-use lib.Ieee.{Float, ofBits, lt}
-use borrow.Author.Tests.{eqb-true, eqb-false, leb-true, eq-eqb, ne-eqb, ltb-true, le-leb, lt-leb}
+use lib.ListN.{length, length-append, take, replicate}
+use lib.Ieee.{Float, lt}
+use borrow.Author.Tests.{eqb-true, leb-true, eq-eqb, ne-eqb, ltb-true, le-leb, lt-leb, lt-ltb, le-ltb}
 use Rattle.points.specs.declared.Point3.{Point3}
 use Rattle.floats.specs.Floats.{zero32}
 use Rattle.delays.specs.declared.Samples.{Samples}
@@ -17,22 +18,71 @@ use Rattle.delays.specs.declared.Outcome.the-variants.{Exact, Blended}
 use Rattle.delays.specs.Delays.{secondsOf}
 use Rattle.mix.specs.declared.Share.{Share}
 use Rattle.mix.specs.declared.Points.{Points}
-use Rattle.mix.specs.Mix.{listOf, sums, tailed, plus, outOf, tapOf, sampleOf}
+use Rattle.mix.specs.Mix.{listOf, Placed, sums, tailed, plus, outOf, tapOf, sampleOf}
 use Rattle.interpolate.specs.declared.Stride.{Stride}
-use Rattle.interpolate.specs.Blend.{delayAt, plainDelay, blendDelay, at, nowhere, strideOf, absent, known, allKnown, closer, nothing, shareOf, taken, pairOf, largest32, tiny32, close32, neighborsOf, distanceOf, pointsOf, Filter, filterOf, extractOf, blendOf, refusedOf, weighedOf, interpolateOf, pick, totalOf, part}
+use Rattle.interpolate.specs.Blend.{delayAt, plainDelay, blendDelay, at, nowhere, strideOf, entryOf, within, entryIn, good, known, allKnown, least, closer, beside, metOf, shareOf, taken, pairIn, pairOf, tiny32, close32, Neighbors, neighborsOf, distanceOf, pointsOf, Gathers, Filter, filterOf, extractOf, blendOf, refusedOf, weighedOf, interpolateOf, pick, totalOf, part}
+use Rattle.interpolate.specs.declared.Entry.{Entry}
+use Rattle.interpolate.specs.declared.Entry.the-variants.{Absent, Measured, Bad}
 use Rattle.interpolate.specs.declared.Closest.{Closest}
-use Rattle.interpolate.specs.declared.Neighbors.{Neighbors}
+use Rattle.interpolate.specs.declared.Closest.the-variants.{Nothing, At}
+use Rattle.interpolate.specs.declared.Met.{Met}
+use Rattle.interpolate.specs.declared.Met.the-variants as met
+use Rattle.interpolate.specs.declared.Gathered.{Gathered}
+use Rattle.interpolate.specs.declared.Gathered.the-variants as gathered
 
 -- ---- a delay that was computed, in seconds
 pub seconds : (rate : Float) {s : Seconds} {d d' : Samples} → s ≡ secondsOf d rate → d ≡ d' → s ≡ secondsOf d' rate
 seconds rate e h = e ∙ ap (λ (x : Samples). secondsOf x rate) h
 
--- ---- the six entries
--- one that is not absent is a measurement
-pub known-in : (m k : ℕ) → known m k ≡ true → (k ≡ absent → ⊥) → k < m
-unfolding known
-known-in m k e h = ltb-true k m (sym (ap (λ (b : Bool). cond b true (ltb k m)) (ne-eqb k absent h)) ∙ e)
+-- ---- an entry
+module _ (m k : ℕ) where
+  pub entry-absent : k ≡ 65535 → Absent ≡ entryIn m k
+  unfolding entryOf
+  entry-absent e = rw (eq-eqb k 65535 e)
 
+  pub entry-measured : (k ≡ 65535 → ⊥) → k < m → Measured k ≡ entryIn m k
+  unfolding entryOf
+  entry-measured e h = rw (ne-eqb k 65535 e, lt-ltb k m h)
+
+  pub entry-bad : (k ≡ 65535 → ⊥) → m ≤ k → Bad ≡ entryIn m k
+  unfolding entryOf
+  entry-bad e h = rw (ne-eqb k 65535 e, le-ltb k m h)
+
+  -- one that is met as a measurement is one
+  pub within-below : within m (Measured k) ≡ Measured k → k < m
+  within-below e = go (ltb k m) refl e
+    where
+      go : (b : Bool) → ltb k m ≡ b → cond b (Measured k) Bad ≡ Measured k → k < m
+      go true h q = ltb-true k m h
+      go false h q = let w : _≡_ {A = ℕ} 0 1 = cc in absurd (omega arith)
+
+within-twice : (m : ℕ) (e : Entry) → within m (within m e) ≡ within m e
+within-twice m Absent = refl
+within-twice m Bad = refl
+within-twice m (Measured k) = go (ltb k m) refl
+  where
+    go : (b : Bool) → ltb k m ≡ b → within m (cond b (Measured k) Bad) ≡ cond b (Measured k) Bad
+    go true h = rw h
+    go false h = refl
+
+pub met-within : (m k : ℕ) (e : Entry) → e ≡ entryIn m k → within m e ≡ e
+met-within m k e q = rw q (within-twice m (entryOf k))
+
+good-within : (m : ℕ) (e : Entry) → good (within m e) ≡ true → within m e ≡ e
+good-within m Absent h = refl
+good-within m Bad h = let w : _≡_ {A = ℕ} 0 1 = cc in absurd (omega arith)
+good-within m (Measured k) h = go (ltb k m) h
+  where
+    go : (b : Bool) → good (cond b (Measured k) Bad) ≡ true → cond b (Measured k) Bad ≡ Measured k
+    go true h = refl
+    go false h = let w : _≡_ {A = ℕ} 0 1 = cc in absurd (omega arith)
+
+-- a known one is met as it stands
+pub known-within : (m k : ℕ) → known m k ≡ true → entryIn m k ≡ entryOf k
+unfolding known
+known-within m k h = good-within m (entryOf k) h
+
+-- ---- the six entries
 and-left : (a b : Bool) → (a && b) ≡ true → a ≡ true
 and-left true b e = refl
 and-left false b e = e
@@ -65,6 +115,27 @@ neighbors-known m s h =
         let h3 = and-left (a && b && c) d h4 in
         let h2 = and-left (a && b) c h3 in
         (and-left a b h2, and-right a b h2, and-right (a && b) c h3, and-right (a && b && c) d h4, and-right (a && b && c && d) e h5, and-right (a && b && c && d && e) f h)
+
+-- where a pair has a bad entry, and where two have none
+module _ (m : ℕ) (s : Neighbors) where
+  pub first-bad : (known m (s .«phi_plus») && known m (s .«phi_minus»)) ≡ false → allKnown m s ≡ false
+  unfolding allKnown
+  first-bad h = rw h
+
+  pub second-bad : (known m (s .«phi_plus») && known m (s .«phi_minus»)) ≡ true → (known m (s .«theta_plus») && known m (s .«theta_minus»)) ≡ false → allKnown m s ≡ false
+  unfolding allKnown
+  second-bad h g = go (known m (s .«phi_plus») && known m (s .«phi_minus»)) (known m (s .«theta_plus»)) (known m (s .«theta_minus»)) (known m (s .«radius_plus»)) (known m (s .«radius_minus»)) h g
+    where
+      go : (x c d e f : Bool) → x ≡ true → (c && d) ≡ false → (x && c && d && e && f) ≡ false
+      go x c d e f h g = rw (h, g)
+
+  pub third-left : (known m (s .«phi_plus») && known m (s .«phi_minus»)) ≡ true → (known m (s .«theta_plus») && known m (s .«theta_minus»)) ≡ true
+      → (known m (s .«radius_plus») && known m (s .«radius_minus»)) ≡ allKnown m s
+  unfolding allKnown
+  third-left h g = go (known m (s .«phi_plus») && known m (s .«phi_minus»)) (known m (s .«theta_plus»)) (known m (s .«theta_minus»)) (known m (s .«radius_plus»)) (known m (s .«radius_minus»)) h g
+    where
+      go : (x c d e f : Bool) → x ≡ true → (c && d) ≡ true → (e && f) ≡ (x && c && d && e && f)
+      go x c d e f h g = rw (h, g)
 
 -- ---- the four places
 abbrev pub fours : Points → List Share
@@ -126,58 +197,97 @@ unfolding listOf
 total-at p k e = ap (λ (j : ℕ). totalOf (take j (fours p))) (sym e)
 
 -- ---- a pair
-module _ (d : ℕ → Float) (best : Closest) (k : ℕ) where
-  pub closer-absent : k ≡ absent → best ≡ closer d best k
+module _ (d : ℕ → Float) (best : Closest) (k : ℕ) (x l : Float) (ex : x ≡ d k) (el : l ≡ least best) where
+  pub closer-wins : lt x l ≡ true → At k x ≡ closer d best k
   unfolding closer
-  closer-absent e = rw (eq-eqb k absent e)
+  closer-wins h = rw (← ex, ← el, h)
 
-  pub closer-wins : (x : Float) → (k ≡ absent → ⊥) → x ≡ d k → lt x (best .dist) ≡ true → record { number = k; dist = x } ≡ closer d best k
+  pub closer-stays : lt x l ≡ false → best ≡ closer d best k
   unfolding closer
-  closer-wins x e q h = rw (ne-eqb k absent e, ← q, h)
+  closer-stays h = rw (← ex, ← el, h)
 
-  pub closer-stays : (x : Float) → (k ≡ absent → ⊥) → x ≡ d k → lt x (best .dist) ≡ false → best ≡ closer d best k
-  unfolding closer
-  closer-stays x e q h = rw (ne-eqb k absent e, ← q, h)
+-- what it says that an entry was met
+pub met-best : (e : Entry) (c x : Closest) → metOf e c ≡ met.Best x → (good e ≡ true) × (c ≡ x)
+met-best Absent c x h = (refl, cc)
+met-best (Measured k) c x h = (refl, cc)
+met-best Bad c x h = let w : _≡_ {A = ℕ} 0 1 = cc in absurd (omega arith)
 
-abbrev test : Closest → Bool
-test b = lt (b .dist) largest32 && lt tiny32 (b .dist)
+pub met-bad : (e : Entry) (c : Closest) → metOf e c ≡ met.Bad → good e ≡ false
+met-bad Absent c h = let w : _≡_ {A = ℕ} 0 1 = cc in absurd (omega arith)
+met-bad (Measured k) c h = let w : _≡_ {A = ℕ} 0 1 = cc in absurd (omega arith)
+met-bad Bad c h = refl
 
-pub pair-yes : (d : ℕ → Float) (a b : ℕ) (first best : Closest) → first ≡ closer d nothing a → best ≡ closer d first b → test best ≡ true → pairOf d a b ≡ shareOf (best .number) (best .dist) ∷ []
-unfolding pairOf taken
-pair-yes d a b first best e1 e2 h =
-    sym (ap taken (e2 ∙ ap (λ (x : Closest). closer d x b) e1)) ∙ ap (λ (t : Bool). cond t (shareOf (best .number) (best .dist) ∷ []) []) h
-
-pub pair-no : (d : ℕ → Float) (a b : ℕ) (first best : Closest) → first ≡ closer d nothing a → best ≡ closer d first b → test best ≡ false → pairOf d a b ≡ []
-unfolding pairOf taken
-pair-no d a b first best e1 e2 h =
-    sym (ap taken (e2 ∙ ap (λ (x : Closest). closer d x b) e1)) ∙ ap (λ (t : Bool). cond t (shareOf (best .number) (best .dist) ∷ []) []) h
-
--- a closest that is below the largest f32 is a measurement
-record Held (m : ℕ) (b : Closest) : Type 0 where
-  number-in : lt (b .dist) largest32 ≡ true → b .number < m
-
-held-nothing : (m : ℕ) → Held m nothing
-unfolding ofBits lt
-held-nothing m = record { number-in = λ h. absurd (never h) }
+-- at most one is taken
+pub pair-length : (d : ℕ → Float) (a b : Entry) → length (pairIn d a b) ≤ 1
+unfolding pairIn
+pair-length d a b = go (beside d (beside d Nothing a) b)
   where
-    never : false ≡ true → ⊥
-    never e = let w : _≡_ {A = ℕ} 0 1 = cc in omega arith
+    two : (t : Bool) (s : Share) → length (cond t (s ∷ []) []) ≤ 1
+    two true s = omega arith
+    two false s = omega arith
 
-held-closer : (m : ℕ) (d : ℕ → Float) (b : Closest) (k : ℕ) → known m k ≡ true → Held m b → Held m (closer d b k)
+    go : (b : Closest) → length (taken b) ≤ 1
+    go Nothing = omega arith
+    go (At k e) = two (lt tiny32 e) (shareOf k e)
+
+-- a closest is a measurement
+abbrev Held : ℕ → Closest → Type 0
+Held m Nothing = Unit
+Held m (At k e) = k < m
+
+held-closer : (m : ℕ) (d : ℕ → Float) (b : Closest) (k : ℕ) → k < m → Held m b → Held m (closer d b k)
 unfolding closer
-held-closer m d b k hk h = go (eqb k absent) refl (lt (d k) (b .dist))
+held-closer m d b k hk h = go (lt (d k) (least b))
   where
-    go : (t : Bool) → eqb k absent ≡ t → (u : Bool) → Held m (cond t b (cond u (record { number = k; dist = d k }) b))
-    go true e u = h
-    go false e true = record { number-in = λ q. known-in m k hk (eqb-false k absent e) }
-    go false e false = h
+    go : (t : Bool) → Held m (cond t (At k (d k)) b)
+    go true = hk
+    go false = h
 
-pub pair-in : (m : ℕ) (d : ℕ → Float) (a b : ℕ) (first best : Closest) → first ≡ closer d nothing a → best ≡ closer d first b → known m a ≡ true → known m b ≡ true
-    → test best ≡ true → best .number < m
-pair-in m d a b first best e1 e2 ha hb h =
-    let f : Held m first = rw e1 (held-closer m d nothing a ha (held-nothing m)) in
-    let g : Held m best = rw e2 (held-closer m d first b hb f) in
-    g .number-in (and-left (lt (best .dist) largest32) (lt tiny32 (best .dist)) h)
+held-beside : (m : ℕ) (d : ℕ → Float) (b : Closest) (e : Entry) → within m e ≡ e → Held m b → Held m (beside d b e)
+held-beside m d b Absent w h = h
+held-beside m d b (Measured k) w h = held-closer m d b k (within-below m k w) h
+held-beside m d b Bad w h = h
+
+-- both entries were met, with these outcomes
+module _ (d : ℕ → Float) (a b : Entry) (one two : Met) (first best : Closest) (e1 : one ≡ metOf a (beside d Nothing a)) (g1 : one ≡ met.Best first) (e2 : two ≡ metOf b (beside d first b)) (g2 : two ≡ met.Best best) where
+  pub both-good : (good a && good b) ≡ true
+  both-good = ap (λ (t : Bool). t && good b) (met-best a (beside d Nothing a) first (sym e1 ∙ g1) .0) ∙ met-best b (beside d first b) best (sym e2 ∙ g2) .0
+
+  pub closest : beside d (beside d Nothing a) b ≡ best
+  closest = ap (λ (x : Closest). beside d x b) (met-best a (beside d Nothing a) first (sym e1 ∙ g1) .1) ∙ met-best b (beside d first b) best (sym e2 ∙ g2) .1
+
+module _ (d : ℕ → Float) (a b : Entry) where
+  pub pair-none : beside d (beside d Nothing a) b ≡ Nothing → pairIn d a b ≡ []
+  unfolding pairIn
+  pair-none e = ap taken e
+
+  module _ (k : ℕ) (x : Float) (e : beside d (beside d Nothing a) b ≡ At k x) where
+    pub pair-yes : lt tiny32 x ≡ true → pairIn d a b ≡ shareOf k x ∷ []
+    unfolding pairIn
+    pair-yes h = ap taken e ∙ rw h
+
+    pub pair-no : lt tiny32 x ≡ false → pairIn d a b ≡ []
+    unfolding pairIn
+    pair-no h = ap taken e ∙ rw h
+
+    pub pair-in : (m : ℕ) → within m a ≡ a → within m b ≡ b → k < m
+    pair-in m wa wb = subst (Held m) e (held-beside m d (beside d Nothing a) b wb (held-beside m d Nothing a wa tt))
+
+-- ---- what was gathered, said of other words for the same
+pub gathers : (m : ℕ) {f f' : Bool} {ps ps' : List Share} (g : Gathered) → f ≡ f' → ps ≡ ps' → Gathers m f ps g → Gathers m f' ps' g
+gathers m (gathered.Points p) ef ep h = (sym ef ∙ h .0, h .1 ∙ ep, h .2)
+gathers m gathered.Bad ef ep h = sym ef ∙ h
+
+-- a pair of entries that were met, and the two as they stand
+pub pair-met : (m : ℕ) (d : ℕ → Float) (ps : List Share) (x y : ℕ) (a b : Entry) (g : Gathered) → a ≡ entryIn m x → b ≡ entryIn m y
+    → Gathers m (good a && good b) (ps ++ pairIn d a b) g → Gathers m (known m x && known m y) (ps ++ pairOf d x y) g
+unfolding known
+pair-met m d ps x y a b gathered.Bad ea eb h = rw (← ea, ← eb) h
+pair-met m d ps x y a b (gathered.Points p) ea eb h =
+    let t : (known m x && known m y) ≡ true = rw (← ea, ← eb) (h .0) in
+    let qa : a ≡ entryOf x = ea ∙ known-within m x (and-left (known m x) (known m y) t) in
+    let qb : b ≡ entryOf y = eb ∙ known-within m y (and-right (known m x) (known m y) t) in
+    (t, h .1 ∙ rw (qa, qb), h .2)
 
 -- ---- one point more
 pub push1 : (p : Points) (s : Share) → p .count ≡ 1 → listOf (record { count = 2; a = p .a; b = s; c = p .c; d = p .d }) ≡ listOf p ++ (s ∷ [])
@@ -192,8 +302,8 @@ pub push3 : (p : Points) (s : Share) → p .count ≡ 3 → listOf (record { cou
 unfolding listOf
 push3 p s e = sym (ap (λ (j : ℕ). take j (fours p) ++ (s ∷ [])) e)
 
-pub at-most-three : (a b : ℕ) → b ≤ a + 1 → a ≤ 2 → b ≤ 3
-at-most-three a b h g = omega arith
+pub one-more : (m : ℕ) (p q : Points) (ps : List Share) → p .count ≤ 4 → Placed m q → listOf q ≡ listOf p ++ ps → length ps ≤ 1 → q .count ≤ p .count + 1
+one-more m p q ps hp hq e h = omega (arith, count-length p hp, count-length q (hq .four), ap length e ∙ length-append (listOf p) ps)
 
 pub divided-list : (p : Points) (sum : Float) (a b c d : Share) → a ≡ part sum (p .a) → b ≡ part sum (p .b) → c ≡ part sum (p .c) → d ≡ part sum (p .d)
     → listOf (record { count = p .count; a = a; b = b; c = c; d = d }) ≡ map (part sum) (listOf p)
@@ -270,19 +380,22 @@ module _ (m r n : ℕ) (resp delays : List Float) (rate : Float) (ll rl : ℕ) (
   unfolding interpolateOf pick
   way-close x eo e h = eo ∙ rw (← e, h)
 
-  pub way-refused : {o : Filter} (x : Float) (s : Neighbors) → o ≡ refusedOf 9 0 ll rl → x ≡ distanceOf cart q k → lt x close32 ≡ false → s ≡ neighborsOf near k → allKnown m s ≡ false → o ≡ answer
+  abbrev here : Gathered → Type 0
+  here g = Gathers m (allKnown m (neighborsOf near k)) (pointsOf (distanceOf cart q) (neighborsOf near k) k) g
+
+  pub way-refused : {o : Filter} (x : Float) (g : Gathered) → o ≡ refusedOf 9 0 ll rl → x ≡ distanceOf cart q k → lt x close32 ≡ false → here g → g ≡ gathered.Bad → o ≡ answer
   unfolding interpolateOf pick
-  way-refused x s eo e h es g = eo ∙ rw (← e, h, ← es, g)
+  way-refused x g eo e h w eg = let a = subst here eg w in eo ∙ rw (← e, h, a)
 
-  pub way-light : {o : Filter} (x : Float) (s : Neighbors) (ps : List Share) (t : Float) → o ≡ extractOf m r n resp delays rate ll rl k → x ≡ distanceOf cart q k → lt x close32 ≡ false → s ≡ neighborsOf near k → allKnown m s ≡ true
-      → ps ≡ pointsOf (distanceOf cart q) s k → t ≡ totalOf ps → lt t tiny32 ≡ true → o ≡ answer
+  pub way-light : {o : Filter} (x : Float) (p : Points) (t : Float) → o ≡ extractOf m r n resp delays rate ll rl k → x ≡ distanceOf cart q k → lt x close32 ≡ false → here (gathered.Points p)
+      → t ≡ totalOf (listOf p) → lt t tiny32 ≡ true → o ≡ answer
   unfolding interpolateOf weighedOf pick
-  way-light x s ps t eo e h es g ep et ht = eo ∙ rw (← e, h, ← es, g, ← ep, ← et, ht)
+  way-light x p t eo e h w et ht = eo ∙ rw (← e, h, w .0, ← w .1, ← et, ht)
 
-  pub way-blended : {o : Filter} (x : Float) (s : Neighbors) (ps : List Share) (t : Float) (qs : List Share) → o ≡ blendOf m r n resp delays rate ll rl qs → x ≡ distanceOf cart q k → lt x close32 ≡ false → s ≡ neighborsOf near k → allKnown m s ≡ true
-      → ps ≡ pointsOf (distanceOf cart q) s k → t ≡ totalOf ps → lt t tiny32 ≡ false → qs ≡ map (part t) ps → o ≡ answer
+  pub way-blended : {o : Filter} (x : Float) (p : Points) (t : Float) (qs : List Share) → o ≡ blendOf m r n resp delays rate ll rl qs → x ≡ distanceOf cart q k → lt x close32 ≡ false → here (gathered.Points p)
+      → t ≡ totalOf (listOf p) → lt t tiny32 ≡ false → qs ≡ map (part t) (listOf p) → o ≡ answer
   unfolding interpolateOf weighedOf pick
-  way-blended x s ps t qs eo e h es g ep et ht eq = eo ∙ rw (← e, h, ← es, g, ← ep, ← et, ht, ← eq)
+  way-blended x p t qs eo e h w et ht eq = eo ∙ rw (← e, h, w .0, ← w .1, ← et, ht, ← eq)
 
 -- ---- an answer and two outputs, as they were made
 module _ (m r n : ℕ) (resp delays : List Float) (rate : Float) (ll rl : ℕ) (a b : Samples) (s t : Seconds) (left right : List Float) where

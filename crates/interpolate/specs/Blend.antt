@@ -1,5 +1,6 @@
 -- Document 01's "Blend": which points are blended with which weights, which delays are meant, and what a filter query then answers and writes.
 -- Definitions only.
+use mathlib.Core.Path.{_≡_}
 use Prim.Native.Nat.{ℕ, _+_, _*_}
 use mathlib.Core.Bool.{Bool, true, false, cond, _&&_}
 use mathlib.Core.List.{List, [], _∷_, _++_, map}
@@ -15,9 +16,15 @@ use Rattle.delays.specs.declared.Outcome.{Outcome}
 use Rattle.delays.specs.declared.Outcome.the-variants.{Exact, Blended, Refused}
 use Rattle.delays.specs.Delays.{secondsOf}
 use Rattle.mix.specs.declared.Share.{Share}
-use Rattle.mix.specs.Mix.{sums, tapOf, sampleOf, outOf}
+use Rattle.mix.specs.Mix.{sums, tapOf, sampleOf, outOf, listOf, Placed}
+use Rattle.interpolate.specs.declared.Entry.{Entry}
+use Rattle.interpolate.specs.declared.Entry.the-variants.{Absent, Measured, Bad}
 use Rattle.interpolate.specs.declared.Closest.{Closest}
-use Rattle.interpolate.specs.declared.Neighbors.{Neighbors}
+use Rattle.interpolate.specs.declared.Closest.the-variants.{Nothing, At}
+use Rattle.interpolate.specs.declared.Met.{Met}
+use Rattle.interpolate.specs.declared.Met.the-variants as met
+use Rattle.interpolate.specs.declared.Gathered.{Gathered}
+use Rattle.interpolate.specs.declared.Gathered.the-variants as gathered
 use Rattle.interpolate.specs.declared.Stride.{Stride}
 
 -- the f32 nearest to 1e-6 and to 1e-10, and the largest f32
@@ -30,41 +37,81 @@ tiny32 = ofBits binary32 0x2edbe6ff
 abbrev pub largest32 : Float
 largest32 = ofBits binary32 0x7f7fffff
 
--- the number of an entry that is absent
-abbrev pub absent : ℕ
-absent = 65535
-
 -- how far measurement k is from the query
 unfoldable pub distanceOf : List Float → Point3 → ℕ → Float
 distanceOf cart q k = rootOf (distSq (pointAt cart k) q)
 
--- ---- a pair of neighbours, where d k is how far measurement k is
--- an entry is absent or a measurement
+-- ---- an entry of the neighbour table
+-- as the lent list has it: 65535 for absent
+unfoldable pub entryOf : ℕ → Entry
+entryOf k = cond (eqb k 65535) Absent (Measured k)
+
+-- as the blend meets it: bad is one that "is neither absent nor below M"
+abbrev pub within : ℕ → Entry → Entry
+within m Absent = Absent
+within m (Measured k) = cond (ltb k m) (Measured k) Bad
+within m Bad = Bad
+
+abbrev pub entryIn : ℕ → ℕ → Entry
+entryIn m k = within m (entryOf k)
+
+abbrev pub good : Entry → Bool
+good Absent = true
+good (Measured k) = true
+good Bad = false
+
 unfoldable pub known : ℕ → ℕ → Bool
-known m k = cond (eqb k absent) true (ltb k m)
+known m k = good (entryIn m k)
 
--- entry k beside the closest so far: it wins where it is there and strictly closer, so that the first listed keeps a tie
+-- ---- a pair of neighbours, where d k is how far measurement k is
+-- what the next one must be below
+abbrev pub least : Closest → Float
+least Nothing = largest32
+least (At k e) = e
+
+-- measurement k beside the closest so far: it wins where it is strictly closer, so that the first listed keeps a tie
 unfoldable pub closer : (ℕ → Float) → Closest → ℕ → Closest
-closer d best k = cond (eqb k absent) best (cond (lt (d k) (best .dist)) (record { number = k; dist = d k }) best)
+closer d best k = cond (lt (d k) (least best)) (At k (d k)) best
 
--- nothing yet
-abbrev pub nothing : Closest
-nothing = record { number = absent; dist = largest32 }
+-- an entry beside the closest so far
+abbrev pub beside : (ℕ → Float) → Closest → Entry → Closest
+beside d best Absent = best
+beside d best (Measured k) = closer d best k
+beside d best Bad = best
+
+-- that closest, unless the entry is bad
+abbrev pub metOf : Entry → Closest → Met
+metOf Absent best = met.Best best
+metOf (Measured k) best = met.Best best
+metOf Bad best = met.Bad
 
 -- the weight is 1 / distance
 abbrev pub shareOf : ℕ → Float → Share
 shareOf k d = record { number = k; weight = div binary32 one32 d }
 
--- "taken only if above 1e-10 and below the largest f32"
-unfoldable pub taken : Closest → List Share
-taken b = cond (lt (b .dist) largest32 && lt tiny32 (b .dist)) (shareOf (b .number) (b .dist) ∷ []) []
+-- "taken only if above 1e-10 and below the largest f32", which the closest of a pair is
+abbrev pub taken : Closest → List Share
+taken Nothing = []
+taken (At k e) = cond (lt tiny32 e) (shareOf k e ∷ []) []
 
-unfoldable pub pairOf : (ℕ → Float) → ℕ → ℕ → List Share
-pairOf d a b = taken (closer d (closer d nothing a) b)
+unfoldable pub pairIn : (ℕ → Float) → Entry → Entry → List Share
+pairIn d a b = taken (beside d (beside d Nothing a) b)
+
+abbrev pub pairOf : (ℕ → Float) → ℕ → ℕ → List Share
+pairOf d a b = pairIn d (entryOf a) (entryOf b)
 
 -- ---- the points, in order: the nearest k, then the closer of each pair
 abbrev pub entry : List ℕ → ℕ → ℕ → ℕ
 entry near k j = getD near (6 * k + j) 0
+
+-- the six entries of a measurement, as they stand
+pub record Neighbors : Type 0 where
+  pub «phi_plus» : ℕ
+  pub «phi_minus» : ℕ
+  pub «theta_plus» : ℕ
+  pub «theta_minus» : ℕ
+  pub «radius_plus» : ℕ
+  pub «radius_minus» : ℕ
 
 abbrev pub neighborsOf : List ℕ → ℕ → Neighbors
 neighborsOf near k = record { «phi_plus» = entry near k 0; «phi_minus» = entry near k 1; «theta_plus» = entry near k 2; «theta_minus» = entry near k 3; «radius_plus» = entry near k 4; «radius_minus» = entry near k 5 }
@@ -75,6 +122,11 @@ allKnown m s = known m (s .«phi_plus») && known m (s .«phi_minus») && known 
 
 unfoldable pub pointsOf : (ℕ → Float) → Neighbors → ℕ → List Share
 pointsOf d s k = (((shareOf k (d k) ∷ []) ++ pairOf d (s .«phi_plus») (s .«phi_minus»)) ++ pairOf d (s .«theta_plus») (s .«theta_minus»)) ++ pairOf d (s .«radius_plus») (s .«radius_minus»)
+
+-- what the code answers of them: where all entries are good the points ps, every place a measurement of m
+abbrev pub Gathers : ℕ → Bool → List Share → Gathered → Type 0
+Gathers m fine ps (gathered.Points p) = (fine ≡ true) × (listOf p ≡ ps) × Placed m p
+Gathers m fine ps gathered.Bad = fine ≡ false
 
 -- the weights, added up from +0 in order
 unfoldable pub totalFrom : Float → List Share → Float

@@ -2,16 +2,17 @@
 // inverse distance, or its plain filter.
 //
 // `interpolateOf` and `extractOf` (specs/Blend.antt) say for every input what is answered and what both outputs then hold, sample by sample.
+// What may be missing or bad is a named outcome (`Entry`, `Closest`, `Met`, `Gathered`), opened where it is met: a bad entry leaves with its refusal.
 // The query is measured as given, never drawn to the measured radii. What is blended of each ear is crate `mix`'s; laws of the weights are
 // crate `weights`'s.
 ghost use mathlib.Core.Path.{_≡_};
-ghost use mathlib.Core.Bool.{true};
+ghost use mathlib.Core.Bool.{_&&_};
 ghost use mathlib.Core.List.{[], _∷_, _++_, map};
 ghost use Prim.Native.Nat.{ℕ, _+_, _*_, _≤_, _<_};
 ghost use lib.ListN.{length};
 ghost use Rattle.floats.specs.Floats.{zero32};
 ghost use Rattle.mix.specs.Mix.{sums, listOf, Sized, Placed};
-ghost use Rattle.interpolate.specs.Blend.{distanceOf, closer, neighborsOf, pairOf, pointsOf, allKnown, totalOf, part, strideOf, delayAt, plainDelay, blendDelay, filterOf, extractOf, blendOf, refusedOf, interpolateOf};
+ghost use Rattle.interpolate.specs.Blend.{distanceOf, entryIn, within, good, least, closer, metOf, pairIn, pairOf, neighborsOf, pointsOf, allKnown, Gathers, totalOf, part, strideOf, delayAt, plainDelay, blendDelay, filterOf, extractOf, blendOf, refusedOf, interpolateOf};
 ghost use Rattle.interpolate.specs.Blend as Blend;
 use delays::Outcome;
 use delays::Samples;
@@ -19,20 +20,29 @@ use mix::Points;
 use mix::Share;
 use points::Point3;
 
-// The closest of a pair so far. The number of nothing yet is 65535, absent, and its distance the largest f32.
-pub struct Closest {
-    pub number: usize,
-    pub dist: f32,
+// An entry of the neighbour table as the blend meets it. One that is neither absent nor a measurement is bad.
+pub enum Entry {
+    Absent,
+    Measured(usize),
+    Bad,
 }
 
-// The six entries of a measurement in the neighbour table, as they stand: 65535 is absent.
-pub struct Neighbors {
-    pub phi_plus: usize,
-    pub phi_minus: usize,
-    pub theta_plus: usize,
-    pub theta_minus: usize,
-    pub radius_plus: usize,
-    pub radius_minus: usize,
+// The closest of a pair so far: its number, and how far it is.
+pub enum Closest {
+    Nothing,
+    At(usize, f32),
+}
+
+// The closest after one more entry was met.
+pub enum Met {
+    Best(Closest),
+    Bad,
+}
+
+// The points to blend.
+pub enum Gathered {
+    Points(Points),
+    Bad,
 }
 
 // Where the delay of measurement k stands: at k * times + plus, if there are any.
@@ -50,70 +60,60 @@ pub fn distance(cartesian: &[f32], k: usize, position: Point3) -> f32
     root::root(points::dist_sq(points::point_at(cartesian, k), position))
 }
 
-// An entry is absent or a measurement.
-fn known(m: usize, k: usize) -> bool
-    ensures { λ r. ⌜ r ≡ Blend.known m k ⌝ }
+// What an entry of the lent list says: 65535 is absent.
+fn entry_of(m: usize, k: u16) -> Entry
+    ensures { λ r. ⌜ r ≡ entryIn m k ⌝ }
 {
     if k == 65535 {
-        return true;
+        return Entry::Absent;
     }
-    k < m
-}
-
-fn wide(x: u16) -> usize
-    ensures { λ r. ⌜ r ≡ x ⌝ }
-{
-    x as usize
+    let n = k as usize;
+    if n < m {
+        return Entry::Measured(n);
+    }
+    Entry::Bad
 }
 
 // Entry j of measurement k.
-fn entry_at(neighbours: &[u16], k: usize, j: usize) -> usize
+fn entry_at(neighbours: &[u16], m: usize, k: usize, j: usize) -> Entry
     requires { ⌜ (j ≤ 5) × (6 * k + 6 ≤ length (now neighbours)) ⌝ }
-    ensures { λ r. ⌜ r ≡ Blend.entry (now (neighbours .entry)) k j ⌝ }
+    ensures { λ r. ⌜ r ≡ entryIn m (Blend.entry (now (neighbours .entry)) k j) ⌝ }
 {
-    wide(neighbours[6 * k + j])
+    entry_of(m, neighbours[6 * k + j])
 }
 
-// The six entries of measurement k.
-fn entries(neighbours: &[u16], k: usize) -> Neighbors
-    requires { ⌜ 6 * k + 6 ≤ length (now neighbours) ⌝ }
-    ensures { λ r. ⌜ r ≡ neighborsOf (now (neighbours .entry)) k ⌝ }
+// What the next one must be below: below the largest f32 is the first.
+fn limit(best: Closest) -> f32
+    ensures { λ r. ⌜ r ≡ least best ⌝ }
 {
-    Neighbors {
-        phi_plus: entry_at(neighbours, k, 0),
-        phi_minus: entry_at(neighbours, k, 1),
-        theta_plus: entry_at(neighbours, k, 2),
-        theta_minus: entry_at(neighbours, k, 3),
-        radius_plus: entry_at(neighbours, k, 4),
-        radius_minus: entry_at(neighbours, k, 5),
+    match best {
+        Closest::Nothing => 3.4028235e38,
+        Closest::At(_, d) => d,
     }
 }
 
-fn all_known(m: usize, s: Neighbors) -> bool
-    ensures { λ r. ⌜ r ≡ allKnown m s ⌝ }
-{
-    let a = known(m, s.phi_plus);
-    let b = known(m, s.phi_minus);
-    let c = known(m, s.theta_plus);
-    let d = known(m, s.theta_minus);
-    let e = known(m, s.radius_plus);
-    let f = known(m, s.radius_minus);
-    a & b & c & d & e & f
-}
-
-// Entry k beside the closest so far: it wins where it is there and strictly closer.
-fn nearer(cartesian: &[f32], position: Point3, m: usize, best: Closest, k: usize) -> Closest
-    requires { ⌜ (Blend.known m k ≡ true) × (3 * m ≤ length (now cartesian)) ⌝ }
+// Measurement k beside the closest so far: it wins where it is strictly closer.
+fn nearer(cartesian: &[f32], position: Point3, best: Closest, k: usize) -> Closest
+    requires { ⌜ 3 * k + 2 < length (now cartesian) ⌝ }
     ensures { λ r. ⌜ r ≡ closer (distanceOf (now (cartesian .entry)) position) best k ⌝ }
 {
-    if k == 65535 {
-        return best;
-    }
     let d = distance(cartesian, k, position);
-    if d < best.dist {
-        return Closest { number: k, dist: d };
+    if d < limit(best) {
+        return Closest::At(k, d);
     }
     best
+}
+
+// An entry beside the closest so far.
+fn meet(cartesian: &[f32], position: Point3, m: usize, best: Closest, e: Entry) -> Met
+    requires { ⌜ (within m e ≡ e) × (3 * m ≤ length (now cartesian)) ⌝ }
+    ensures { λ r. ⌜ r ≡ metOf e (Blend.beside (distanceOf (now (cartesian .entry)) position) best e) ⌝ }
+{
+    match e {
+        Entry::Absent => Met::Best(best),
+        Entry::Measured(k) => Met::Best(nearer(cartesian, position, best, k)),
+        Entry::Bad => Met::Bad,
+    }
 }
 
 // One point more. Places that are not counted hold measurements too, so that none is tested where places are read.
@@ -157,39 +157,64 @@ fn add_closer_neighbor(
     cartesian: &[f32],
     position: Point3,
     m: usize,
-    a: usize,
-    b: usize,
-) -> Points
-    requires { ⌜ Placed m p × (p .count ≤ 3) × (Blend.known m a ≡ true) × (Blend.known m b ≡ true) × (3 * m ≤ length (now cartesian)) ⌝ }
-    ensures { λ r. ⌜ (listOf r ≡ listOf p ++ pairOf (distanceOf (now (cartesian .entry)) position) a b) × Placed m r × (r .count ≤ p .count + 1) ⌝ }
+    a: Entry,
+    b: Entry,
+) -> Gathered
+    requires { ⌜ Placed m p × (p .count ≤ 3) × (within m a ≡ a) × (within m b ≡ b) × (3 * m ≤ length (now cartesian)) ⌝ }
+    ensures { λ r. ⌜ Gathers m (good a && good b) (listOf p ++ pairIn (distanceOf (now (cartesian .entry)) position) a b) r ⌝ }
 {
-    let none = Closest {
-        number: 65535,
-        dist: 3.4028235e38,
+    let one = meet(cartesian, position, m, Closest::Nothing, a);
+    let Met::Best(first) = one else {
+        return Gathered::Bad;
     };
-    let first = nearer(cartesian, position, m, none, a);
-    let best = nearer(cartesian, position, m, first, b);
-    if (best.dist < 3.4028235e38) & (1e-10 < best.dist) {
+    let two = meet(cartesian, position, m, first, b);
+    let Met::Best(best) = two else {
+        return Gathered::Bad;
+    };
+    let Closest::At(k, d) = best else {
+        return Gathered::Points(p);
+    };
+    if 1e-10 < d {
         let s = Share {
-            number: best.number,
-            weight: 1.0 / best.dist,
+            number: k,
+            weight: 1.0 / d,
         };
-        return push(p, s);
+        return Gathered::Points(push(p, s));
     }
-    p
+    Gathered::Points(p)
+}
+
+// The pair of entries j and j + 1 of measurement k.
+fn add_pair(
+    p: Points,
+    cartesian: &[f32],
+    neighbours: &[u16],
+    position: Point3,
+    m: usize,
+    k: usize,
+    j: usize,
+) -> Gathered
+    requires { ⌜ Placed m p × (p .count ≤ 3) × (j ≤ 4) × (k < m) × (3 * m ≤ length (now cartesian)) × (6 * m ≤ length (now neighbours)) ⌝ }
+    ensures { λ r. ⌜ Gathers m (Blend.known m (Blend.entry (now (neighbours .entry)) k j) && Blend.known m (Blend.entry (now (neighbours .entry)) k (j + 1)))
+        (listOf p ++ pairOf (distanceOf (now (cartesian .entry)) position) (Blend.entry (now (neighbours .entry)) k j) (Blend.entry (now (neighbours .entry)) k (j + 1))) r ⌝ }
+{
+    let a = entry_at(neighbours, m, k, j);
+    let b = entry_at(neighbours, m, k, j + 1);
+    add_closer_neighbor(p, cartesian, position, m, a, b)
 }
 
 // The points to blend, d being the distance to the nearest.
 fn gather(
     cartesian: &[f32],
+    neighbours: &[u16],
     position: Point3,
     m: usize,
     nearest: usize,
     d: f32,
-    s: Neighbors,
-) -> Points
-    requires { ⌜ (nearest < m) × (3 * m ≤ length (now cartesian)) × (d ≡ distanceOf (now cartesian) position nearest) × (allKnown m s ≡ true) ⌝ }
-    ensures { λ r. ⌜ (listOf r ≡ pointsOf (distanceOf (now (cartesian .entry)) position) s nearest) × Placed m r ⌝ }
+) -> Gathered
+    requires { ⌜ (nearest < m) × (3 * m ≤ length (now cartesian)) × (6 * m ≤ length (now neighbours)) × (d ≡ distanceOf (now cartesian) position nearest) ⌝ }
+    ensures { λ r. ⌜ Gathers m (allKnown m (neighborsOf (now (neighbours .entry)) nearest))
+        (pointsOf (distanceOf (now (cartesian .entry)) position) (neighborsOf (now (neighbours .entry)) nearest) nearest) r ⌝ }
 {
     let first = Share {
         number: nearest,
@@ -202,9 +227,15 @@ fn gather(
         c: first,
         d: first,
     };
-    let p1 = add_closer_neighbor(p, cartesian, position, m, s.phi_plus, s.phi_minus);
-    let p2 = add_closer_neighbor(p1, cartesian, position, m, s.theta_plus, s.theta_minus);
-    add_closer_neighbor(p2, cartesian, position, m, s.radius_plus, s.radius_minus)
+    let azimuth = add_pair(p, cartesian, neighbours, position, m, nearest, 0);
+    let Gathered::Points(p1) = azimuth else {
+        return Gathered::Bad;
+    };
+    let elevation = add_pair(p1, cartesian, neighbours, position, m, nearest, 2);
+    let Gathered::Points(p2) = elevation else {
+        return Gathered::Bad;
+    };
+    add_pair(p2, cartesian, neighbours, position, m, nearest, 4)
 }
 
 // The sum of the weights.
@@ -418,26 +449,25 @@ pub fn interpolate(
     if d < 1e-6 {
         return extract_filter(responses, delays, rate, m, r, n, nearest, left, right);
     }
-    let s = entries(neighbours, nearest);
-    if all_known(m, s) {
-        let p = gather(cartesian, position, m, nearest, d, s);
-        let sum = total(p);
-        if sum < 1e-10 {
-            return extract_filter(responses, delays, rate, m, r, n, nearest, left, right);
-        }
-        return blend(
-            responses,
-            delays,
-            rate,
-            m,
-            r,
-            n,
-            divided(p, sum),
-            left,
-            right,
-        );
+    let gathered = gather(cartesian, neighbours, position, m, nearest, d);
+    let Gathered::Points(p) = gathered else {
+        return refuse(9, 0, left, right);
+    };
+    let sum = total(p);
+    if sum < 1e-10 {
+        return extract_filter(responses, delays, rate, m, r, n, nearest, left, right);
     }
-    refuse(9, 0, left, right)
+    blend(
+        responses,
+        delays,
+        rate,
+        m,
+        r,
+        n,
+        divided(p, sum),
+        left,
+        right,
+    )
 }
 
 // The nearest measurement's filter, nothing blended.

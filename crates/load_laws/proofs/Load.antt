@@ -22,7 +22,7 @@ use Rattle.lookup.specs.Lookup.{clampedBy, locateOf, unless, findOf, movedAs, m
 use Rattle.mix.specs.Mix.{startOf}
 use Rattle.interpolate.specs.Blend.{Filter, extractOf}
 use Rattle.delays.specs.Delays.{secondsOf}
-use Rattle.interpolate.specs.declared.Neighbors as port
+use Rattle.interpolate.specs.Blend as port
 use Rattle.stored.specs.declared.Around.the-variants.{Six}
 use Rattle.stored.specs.declared.MaxDelay.the-variants.{Delay}
 use Rattle.stored.specs.Longest.{greatest, longestOf, maxBy, maxDelayOf}

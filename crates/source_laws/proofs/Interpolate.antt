@@ -11,8 +11,8 @@ use borrow.Author.Tests.{le-ltb, lt-leb, lt-ltb, ne-eqb}
 use Rattle.floats.specs.Floats.{zero32, one32}
 use Rattle.points.specs.declared.Point3.{Point3}
 use Rattle.mix.specs.declared.Share.{Share}
-use Rattle.interpolate.specs.declared.Neighbors as port
-use Rattle.interpolate.specs.Blend.{close32, tiny32, distanceOf, known, allKnown, neighborsOf, pairOf, pointsOf, totalFrom, totalOf, part, Filter, filterOf, blendDelay, pick, extractOf, blendOf, weighedOf, interpolateOf, refusedOf}
+use Rattle.interpolate.specs.Blend as port
+use Rattle.interpolate.specs.Blend.{close32, tiny32, distanceOf, entryOf, known, allKnown, neighborsOf, pairOf, pointsOf, totalFrom, totalOf, part, Filter, filterOf, blendDelay, pick, extractOf, blendOf, weighedOf, interpolateOf, refusedOf}
 use Rattle.delays.specs.declared.Outcome.the-variants.{Blended}
 use Rattle.delays.specs.Delays.{secondsOf}
 use Rattle.weights.specs.Weights.{Measured}
@@ -42,7 +42,7 @@ pub record SixIn (m : ℕ) (s : Neighbors) : Type 0 where
   pub f : InSet m (s .«radius_minus»)
 
 known-entry : (m : ℕ) (o : Option ℕ) → m ≤ 16384 → InSet m o → known m (entered o) ≡ true
-unfolding known entered
+unfolding known entryOf entered
 known-entry m None h i = refl
 known-entry m (Some k) h i = rw (ne-eqb k 65535 (λ e. omega arith), lt-ltb k m i)
 

@@ -6,19 +6,18 @@ use Prim.Native.Nat.{ℕ, _+_, _-_, _*_, _<_, _≤_}
 use native.Mathlib.Omega.{arith}
 use lib.Dec.{T, leb, ltb}
 use lib.ListN.{length, take}
-use lib.Ieee.{Float, nan, inf, fin, binary32, up, down, add, sum, div, neg, lt, round, ofBits}
+use lib.Ieee.{Float, nan, inf, fin, binary32, up, down, add, sum, div, neg, lt, round}
 use borrow.Author.Tests.{ne-eqb, ltb-false, le-ltb}
 use Rattle.floats.specs.Floats.{zero32, one32}
 use Rattle.lists.specs.Each.{Each}
 use Rattle.floats.proofs.Sign.{nonneg}
-use Rattle.floats.proofs.Cross.{is-true}
-use Rattle.floats.proofs.Preorder.{lt-trans-f}
 use Rattle.points.specs.declared.Point3.{Point3}
 use Rattle.points.specs.Points.{pointAt, distSq}
 use Rattle.mix.specs.declared.Share.{Share}
 use Rattle.interpolate.specs.declared.Closest.{Closest}
+use Rattle.interpolate.specs.declared.Closest.the-variants as port
 use Rattle.interpolate.specs.Blend as blend
-use Rattle.interpolate.specs.Blend.{tiny32, largest32, distanceOf, nothing, shareOf, taken, pairOf, totalFrom}
+use Rattle.interpolate.specs.Blend.{tiny32, largest32, distanceOf, entryOf, least, beside, taken, pairIn, pairOf, totalFrom}
 use Rattle.source.specs.Rust.{Option, None, Some, at, MAX}
 use Rattle.source.specs.Lookup.{triplet}
 use Rattle.source.specs.Interpolate.{«1e-10», Weighted, Closer, distance, closer, pushed, «add_closer_neighbor», sumFrom}
@@ -45,22 +44,6 @@ if-listed : (g : Bool) (l : List Weighted) (w : Weighted) → listed (cond g (l 
 if-listed true l w = listed-more l w
 if-listed false l w = sym (append-nil (listed l))
 
-not-largest : lt largest32 largest32 ≡ false
-unfolding lt ofBits
-not-largest = refl
-
-none-taken : (c : Closest) → c .dist ≡ largest32 → taken c ≡ []
-unfolding taken
-none-taken c e =
-    ap (λ (x : Float). cond (lt x largest32 && lt tiny32 x) (shareOf (c .number) (c .dist) ∷ []) []) e
-    ∙ ap (λ (b : Bool). cond (b && lt tiny32 largest32) (shareOf (c .number) (c .dist) ∷ []) []) not-largest
-
-one-taken : (c : Closest) (k : ℕ) → k ≡ c .number → lt (c .dist) largest32 ≡ true → taken c ≡ cond (lt tiny32 (c .dist)) (shareOf k (c .dist) ∷ []) []
-unfolding taken
-one-taken c k en h =
-    ap (λ (b : Bool). cond (b && lt tiny32 (c .dist)) (shareOf (c .number) (c .dist) ∷ []) []) h
-    ∙ ap (λ (j : ℕ). cond (lt tiny32 (c .dist)) (shareOf j (c .dist) ∷ []) []) (sym en)
-
 -- ---- the distance
 
 pub distance-same : (xs : List Float) (q : Point3) (k : ℕ) → distance (pointAt xs k) q ≡ distanceOf xs q k
@@ -79,54 +62,54 @@ module _ (xs : List Float) (m : ℕ) (small : m ≤ 16384) (long : 3 * m ≤ len
 
   -- ---- the closer of a pair
 
-  -- nothing yet, or a distance below the largest f32
-  abbrev Open : Option ℕ → Float → Type 0
-  Open None x = x ≡ largest32
-  Open (Some k) x = lt x largest32 ≡ true
+  -- nothing yet at the largest f32, or the same measurement
+  abbrev Twin : Option ℕ → Float → Closest → Type 0
+  Twin None x port.Nothing = x ≡ largest32
+  Twin None x (port.At n e) = ⊥
+  Twin (Some k) x port.Nothing = ⊥
+  Twin (Some k) x (port.At n e) = (k ≡ n) × (x ≡ e)
 
-  record Twin (b : Closer) (c : Closest) : Type 0 where
-    number : entered (b .«best_idx») ≡ c .number
-    dist : b .«best_dist» ≡ c .dist
-    below : Open (b .«best_idx») (c .dist)
+  least-same : (o : Option ℕ) (x : Float) (c : Closest) → Twin o x c → x ≡ least c
+  least-same None x port.Nothing t = t
+  least-same None x (port.At n e) t = absurd t
+  least-same (Some k) x port.Nothing t = absurd t
+  least-same (Some k) x (port.At n e) t = t .1
 
-  nearer : (o : Option ℕ) (x y : Float) → lt x y ≡ true → Open o y → lt x largest32 ≡ true
-  nearer None x y h e = subst (λ (z : Float). lt x z ≡ true) e h
-  nearer (Some k) x y h e = is-true (lt x largest32) (lt-trans-f x y largest32 (subst T (sym h) tt) (subst T (sym e) tt))
+  abbrev Same : Closer → Closest → Type 0
+  Same b c = Twin (b .«best_idx») (b .«best_dist») c
 
-  wins : (k : ℕ) (b : Closer) (c : Closest) → Twin b c → k < m
-      → Twin (cond (lt (d k) (b .«best_dist»)) (record { «best_idx» = Some k; «best_dist» = d k }) b) (cond (lt (d k) (c .dist)) (record { number = k; dist = d k }) c)
-  wins k b c t h = subst (λ (x : Float). Twin (cond (lt (d k) x) won b) (cond (lt (d k) (c .dist)) (record { number = k; dist = d k }) c)) (sym (t .dist)) (go (lt (d k) (c .dist)) refl)
+  wins : (k : ℕ) (b : Closer) (c : Closest) → Same b c → Same (cond (lt (d k) (b .«best_dist»)) (record { «best_idx» = Some k; «best_dist» = d k }) b) (blend.closer d c k)
+  unfolding blend.closer
+  wins k b c t = subst (λ (x : Float). Same (cond (lt (d k) x) won b) (cond (lt (d k) (least c)) (port.At k (d k)) c)) (sym (least-same (b .«best_idx») (b .«best_dist») c t)) (go (lt (d k) (least c)))
     where
       won : Closer
       won = record { «best_idx» = Some k; «best_dist» = d k }
 
-      go : (g : Bool) → lt (d k) (c .dist) ≡ g → Twin (cond g won b) (cond g (record { number = k; dist = d k }) c)
-      go true e = record { number = unfold entered in refl; dist = refl; below = nearer (b .«best_idx») (d k) (c .dist) e (t .below) }
-      go false e = t
+      go : (g : Bool) → Same (cond g won b) (cond g (port.At k (d k)) c)
+      go true = (refl, refl)
+      go false = t
 
-  closer-same : (o : Option ℕ) (b : Closer) (c : Closest) → InSet m o → Twin b c → Twin (closer q sp 3 b o) (blend.closer d c (entered o))
-  unfolding closer blend.closer entered
+  closer-same : (o : Option ℕ) (b : Closer) (c : Closest) → InSet m o → Same b c → Same (closer q sp 3 b o) (beside d c (entryOf (entered o)))
+  unfolding closer entryOf entered
   closer-same None b c h t = t
   closer-same (Some k) b c h t =
-      rw (inside xs m k long h) (rw (dist-here k h) (rw (ne-eqb k 65535 (λ e. omega arith)) (wins k b c t h)))
+      rw (inside xs m k long h) (rw (dist-here k h) (rw (ne-eqb k 65535 (λ e. omega arith)) (wins k b c t)))
 
   -- what is pushed
-  pushed-same : (l : List Weighted) (o : Option ℕ) (x : Float) (c : Closest) → entered o ≡ c .number → x ≡ c .dist → Open o (c .dist)
-      → listed (pushed l o x) ≡ listed l ++ taken c
-  unfolding pushed entered
-  pushed-same l None x c en ex h = sym (append-nil (listed l)) ∙ ap (λ (z : List Share). listed l ++ z) (sym (none-taken c h))
-  pushed-same l (Some k) x c en ex h =
-      ap (λ (y : Float). listed (cond (lt «1e-10» y) (l ++ (weighed k y ∷ [])) l)) ex
-      ∙ if-listed (lt tiny32 (c .dist)) l (weighed k (c .dist))
-      ∙ ap (λ (z : List Share). listed l ++ z) (sym (one-taken c k en h))
+  pushed-same : (l : List Weighted) (o : Option ℕ) (x : Float) (c : Closest) → Twin o x c → listed (pushed l o x) ≡ listed l ++ taken c
+  unfolding pushed
+  pushed-same l None x port.Nothing t = sym (append-nil (listed l))
+  pushed-same l None x (port.At n e) t = absurd t
+  pushed-same l (Some k) x port.Nothing t = absurd t
+  pushed-same l (Some k) x (port.At n e) t = rw (t .0, t .1) (if-listed (lt tiny32 e) l (weighed n e))
 
   pub pair-same : (l : List Weighted) (a b : Option ℕ) → InSet m a → InSet m b → listed («add_closer_neighbor» l a b q sp 3) ≡ listed l ++ pairOf d (entered a) (entered b)
-  unfolding «add_closer_neighbor» pairOf
+  unfolding «add_closer_neighbor» pairIn
   pair-same l a b ha hb =
       let none : Closer = record { «best_idx» = None; «best_dist» = MAX } in
-      let t = closer-same b (closer q sp 3 none a) (blend.closer d nothing (entered a)) hb (closer-same a none nothing ha (record { number = unfold entered in refl; dist = refl; below = refl })) in
+      let first = beside d port.Nothing (entryOf (entered a)) in
       let z = closer q sp 3 (closer q sp 3 none a) b in
-      pushed-same l (z .«best_idx») (z .«best_dist») (blend.closer d (blend.closer d nothing (entered a)) (entered b)) (t .number) (t .dist) (t .below)
+      pushed-same l (z .«best_idx») (z .«best_dist») (beside d first (entryOf (entered b))) (closer-same b (closer q sp 3 none a) first hb (closer-same a none port.Nothing ha refl))
 
 -- ---- the points are measurements of the set
 

@@ -14,7 +14,7 @@ use Rattle.source.specs.Lookup.{Hrtf}
 use Rattle.source.specs.Neighbors.{Neighbors}
 use Rattle.source.specs.Reader as reader
 use Rattle.delays.specs.Delays.{answerOf}
-use Rattle.interpolate.specs.declared.Neighbors as port
+use Rattle.interpolate.specs.Blend as port
 use Rattle.interpolate.specs.Blend.{Filter}
 use Rattle.source.specs.Kdtree as source
 use Rattle.source.specs.Kdtree.{Link, kdNode, none, some}

@@ -10,7 +10,6 @@ use lib.ListN.{length, length-append, length-map}
 use lib.Ieee.{Float, nan, inf, fin, Format, binary32, up, down, round, sum, add, div, le, lt, fits, isNan, ofBits}
 use lib.Ieee.Fits.{add-fits, div-fits}
 use lib.Ieee.Positive.{positive}
-use borrow.Author.Tests.{eqb-false}
 use Rattle.floats.specs.Floats.{zero32, one32}
 use Rattle.floats.proofs.Cross.{of-taken, of-left, is-false}
 use Rattle.floats.proofs.Sign.{nonneg, round-nonneg}
@@ -21,10 +20,12 @@ use Rattle.points.specs.declared.Point3.{Point3}
 use Rattle.mix.specs.declared.Share.{Share}
 use Rattle.delays.specs.declared.Seconds.{Seconds}
 use Rattle.delays.specs.declared.Outcome.the-variants.{Exact, Blended, Refused}
-use Rattle.interpolate.specs.Blend.{close32, tiny32, largest32, absent, totalFrom, totalOf, part, shareOf, known, allKnown, closer, nothing, taken, pairOf, pointsOf, distanceOf, neighborsOf, Filter, pick, extractOf, blendOf, weighedOf, refusedOf, interpolateOf}
+use Rattle.interpolate.specs.Blend.{close32, tiny32, largest32, totalFrom, totalOf, part, shareOf, entryOf, within, known, allKnown, least, closer, beside, taken, pairIn, pairOf, Neighbors, pointsOf, distanceOf, neighborsOf, Filter, pick, extractOf, blendOf, weighedOf, refusedOf, interpolateOf}
+use Rattle.interpolate.specs.declared.Entry.{Entry}
+use Rattle.interpolate.specs.declared.Entry.the-variants as entry
 use Rattle.interpolate.specs.declared.Closest.{Closest}
-use Rattle.interpolate.specs.declared.Neighbors.{Neighbors}
-use Rattle.interpolate.proofs.Laws.{known-in, neighbors-known}
+use Rattle.interpolate.specs.declared.Closest.the-variants.{Nothing, At}
+use Rattle.interpolate.proofs.Laws.{within-below, known-within, neighbors-known, pair-length}
 use Rattle.lists.specs.Each.{Each}
 use Rattle.weights.specs.Weights.{Measured, Portion, Shared}
 use Rattle.weights.proofs.Distances.{distance-nonneg}
@@ -222,51 +223,45 @@ pub portions : (ps : List Share) → length ps ≤ 4 → Each Sound ps → lt (t
 portions ps h e t = portions-by (totalOf ps) ps (total-positive ps h e t) e (total-over ps (goods ps e))
 
 -- ---- the points: one to four of them
-pair-length : (d : ℕ → Float) (a b : ℕ) → length (pairOf d a b) ≤ 1
-unfolding pairOf taken
-pair-length d a b = go (closer d (closer d nothing a) b)
-  where
-    go : (b : Closest) → length (taken b) ≤ 1
-    go b = unfold taken in two (lt (b .dist) largest32 && lt tiny32 (b .dist)) (shareOf (b .number) (b .dist))
-      where
-        two : (t : Bool) (s : Share) → length (cond t (s ∷ []) []) ≤ 1
-        two true s = omega arith
-        two false s = omega arith
-
 pub points-count : (d : ℕ → Float) (s : Neighbors) (k : ℕ) → (1 ≤ length (pointsOf d s k)) × (length (pointsOf d s k) ≤ 4)
 unfolding pointsOf
 points-count d s k = (
   simp length-append (omega arith),
-  simp length-append (omega (arith, pair-length d (s .«phi_plus») (s .«phi_minus»), pair-length d (s .«theta_plus») (s .«theta_minus»), pair-length d (s .«radius_plus») (s .«radius_minus»))),
+  simp length-append (omega (arith, pair-length d (entryOf (s .«phi_plus»)) (entryOf (s .«phi_minus»)), pair-length d (entryOf (s .«theta_plus»)) (entryOf (s .«theta_minus»)), pair-length d (entryOf (s .«radius_plus»)) (entryOf (s .«radius_minus»)))),
 )
 
 -- ---- all of them sound, where no measurement's distance is negative or a NaN and the nearest's is not below 1e-6
 module _ (m : ℕ) (d : ℕ → Float) (h : (j : ℕ) → j < m → T (nonneg (d j))) where
-  closer-nonneg : (b : Closest) (k : ℕ) → known m k ≡ true → T (nonneg (b .dist)) → T (nonneg (closer d b k .dist))
+  closer-nonneg : (b : Closest) (k : ℕ) → k < m → T (nonneg (least b)) → T (nonneg (least (closer d b k)))
   unfolding closer
-  closer-nonneg b k e g = go (eqb k absent) refl (lt (d k) (b .dist))
+  closer-nonneg b k e g = go (lt (d k) (least b))
     where
-      go : (t : Bool) → eqb k absent ≡ t → (u : Bool) → T (nonneg ((cond t b (cond u (record { number = k; dist = d k }) b)) .dist))
-      go true f u = g
-      go false f true = h k (known-in m k e (eqb-false k absent f))
-      go false f false = g
+      go : (u : Bool) → T (nonneg (least (cond u (At k (d k)) b)))
+      go true = h k e
+      go false = g
 
-  taken-sound : (b : Closest) → T (nonneg (b .dist)) → Each Sound (taken b)
-  unfolding taken
-  taken-sound b g = go (lt (b .dist) largest32) (lt tiny32 (b .dist)) refl
+  beside-nonneg : (b : Closest) (e : Entry) → within m e ≡ e → T (nonneg (least b)) → T (nonneg (least (beside d b e)))
+  beside-nonneg b entry.Absent w g = g
+  beside-nonneg b (entry.Measured k) w g = closer-nonneg b k (within-below m k w) g
+  beside-nonneg b entry.Bad w g = g
+
+  taken-sound : (b : Closest) → T (nonneg (least b)) → Each Sound (taken b)
+  taken-sound Nothing g = tt
+  taken-sound (At k e) g = go (lt tiny32 e) refl
     where
-      go : (t u : Bool) → lt tiny32 (b .dist) ≡ u → Each Sound (cond (t && u) (shareOf (b .number) (b .dist) ∷ []) [])
-      go true true e = (share-sound (b .number) (b .dist) g (lt→le tiny32 (b .dist) (of-taken e)), tt)
-      go true false e = tt
-      go false u e = tt
+      go : (u : Bool) → lt tiny32 e ≡ u → Each Sound (cond u (shareOf k e ∷ []) [])
+      go true q = (share-sound k e g (lt→le tiny32 e (of-taken q)), tt)
+      go false q = tt
 
-  largest-nonneg : T (nonneg (nothing .dist))
+  largest-nonneg : T (nonneg largest32)
   unfolding ofBits
   largest-nonneg = tt
 
   pair-sound : (a b : ℕ) → known m a ≡ true → known m b ≡ true → Each Sound (pairOf d a b)
-  unfolding pairOf
-  pair-sound a b ka kb = taken-sound (closer d (closer d nothing a) b) (closer-nonneg (closer d nothing a) b kb (closer-nonneg nothing a ka largest-nonneg))
+  unfolding pairIn
+  pair-sound a b ka kb =
+      let first = beside d Nothing (entryOf a) in
+      taken-sound (beside d first (entryOf b)) (beside-nonneg first (entryOf b) (known-within m b kb) (beside-nonneg Nothing (entryOf a) (known-within m a ka) largest-nonneg))
 
   pub points-sound : (s : Neighbors) (k : ℕ) → k < m → allKnown m s ≡ true → lt (d k) close32 ≡ false → Each Sound (pointsOf d s k)
   unfolding pointsOf

@@ -1,11 +1,29 @@
 -- `interpolate::interpolate` meets its contract: each way out is one law. Assumes nothing.
-use mathlib.Core.Path.{sym, _∙_}
+use mathlib.Core.Path.{subst}
 use denote.Ref.{now}
 use lib.ListN.{length}
+use borrow.Author.Needs.{needs}
+use Rattle.mix.specs.declared.Points.{Points}
 use Rattle.mix.specs.Mix.{listOf}
-use Rattle.interpolate.proofs.Laws.{three-in, six-in, way-close, way-light, way-blended, way-refused}
+use Rattle.interpolate.specs.declared.Gathered.{Gathered}
+use Rattle.interpolate.specs.declared.Gathered.the-variants as gathered
+use Rattle.interpolate.specs.Blend.{distanceOf, allKnown, neighborsOf, pointsOf, Gathers}
+use Rattle.interpolate.proofs.Laws.{three-in, way-close, way-light, way-blended, way-refused}
 use Rattle.interpolate.proofs.interpolate.Statement.{statement}
 use Rattle.interpolate.proofs.interpolate.Tie as tie
+
+-- the points are gathered
+abbrev begin : tie.After-known-told → tie.Start
+begin c = c .before .before .before .before .before .before .before .before .before .before .before .before
+
+abbrev points : tie.After-known-told → Points
+points c = c .before .gathered .given .0 .0
+
+abbrev Here : tie.Start → Gathered → Type 0
+Here z g = let a = z .args in let s = neighborsOf (now (a .neighbours)) (a .nearest) in Gathers (a .m) (allKnown (a .m) s) (pointsOf (distanceOf (now (a .cartesian)) (a .position)) s (a .nearest)) g
+
+met : (c : tie.After-known-told) → Here (begin c) (gathered.Points (points c))
+met c = subst (Here (begin c)) (c .before .gathered .given .1) (c .before .before .before .gather .ensures)
 
 distance-requires : tie.Need-distance-requires
 distance-requires c κs =
@@ -34,112 +52,102 @@ returns c =
     (d .distance .ensures)
     (c .before .before .before .before .before .before .before .if1 .taken)
 
-entries-requires : tie.Need-entries-requires
-entries-requires c κs =
-    let s = c .before .before .before .before .before .before .before .before in
-    six-in (s .args .nearest) (s .args .m) (length (now (s .args .neighbours))) (s .pre .1) (s .pre .3)
-
-all-known-requires : tie.Need-all-known-requires
-all-known-requires c κs = tt
-
 gather-requires : tie.Need-gather-requires
 gather-requires c κs =
-    let p = c .before .before .before .before .before .before .before .before .before .before .before .pre in
-    (p .1, p .2, c .before .before .before .before .distance .ensures, sym (c .before .all-known .ensures) ∙ c .if2 .taken)
+    let p = c .before .before .before .before .before .before .before .before .pre in
+    (p .1, p .2, p .3, c .before .distance .ensures)
 
-total-requires : tie.Need-total-requires
-total-requires c κs = (c .gather .ensures .1 .one, c .gather .ensures .1 .four)
+enum-known-gathered : tie.Need-enum-known-gathered
+enum-known-gathered c = search needs
 
-extract-filter-requires-2 : tie.Need-extract-filter-requires-2
-extract-filter-requires-2 c κs =
-    let p = c .before .before .before .before .before .before .before .before .before .before .before .before .before .before .before .before .pre in
-    (p .0, p .1, p .4)
+enum-told : tie.Need-enum-told
+enum-told c = search needs
+
+refuse-requires : tie.Need-refuse-requires
+refuse-requires c κs = tt
 
 same-length-3 : tie.Need-same-length-3
-same-length-3 c = c .before .before .before .before .extract-filter2 .kept .1 .1 .1 .1 .1 .1 .1 .0
+same-length-3 c = c .before .before .before .before .refuse .kept .1 .1 .0
 
 same-length-4 : tie.Need-same-length-4
-same-length-4 c = c .before .before .before .before .extract-filter2 .kept .1 .1 .1 .1 .1 .1 .1 .1 .0
+same-length-4 c = c .before .before .before .before .refuse .kept .1 .1 .1 .0
 
 returns-2 : tie.Need-returns-2
 returns-2 c =
-    let a = c .before .before .before .before .before .before .before .before .before .before .before .before .before .before .before .before .before .before .before .before .before .args in
-    let d = c .before .before .before .before .before .before .before .before .before .before .before .before .before .before in
-    let e = c .before .before .before .before .before .before .before .before .before .before .before .before in
-    let w = c .before .before .before .before .before .before .before .before .before .before .before in
     let g = c .before .before .before .before .before .before .before .before .before in
+    let d = g .before .before in
+    let a = d .before .before .before .before .before .before .before .args in
+    way-refused
+    (a .m) (a .r) (a .n) (now (a .responses)) (now (a .delays)) (a .rate) (length (now (a .left))) (length (now (a .right)))
+    (now (a .cartesian)) (now (a .neighbours)) (a .position) (a .nearest) (d .distance .result) (g .gather .result)
+    (c .before .before .before .before .refuse .ensures)
+    (d .distance .ensures)
+    (g .before .if1 .left)
+    (g .gather .ensures)
+    (c .before .before .before .before .before .before .before .enum-told .given .1)
+
+total-requires : tie.Need-total-requires
+total-requires c κs = (met c .2 .one, met c .2 .four)
+
+extract-filter-requires-2 : tie.Need-extract-filter-requires-2
+extract-filter-requires-2 c κs =
+    let p = begin (c .before .before .before .before) .pre in
+    (p .0, p .1, p .4)
+
+same-length-5 : tie.Need-same-length-5
+same-length-5 c = c .before .before .before .before .extract-filter2 .kept .1 .1 .1 .1 .1 .1 .1 .0
+
+same-length-6 : tie.Need-same-length-6
+same-length-6 c = c .before .before .before .before .extract-filter2 .kept .1 .1 .1 .1 .1 .1 .1 .1 .0
+
+returns-3 : tie.Need-returns-3
+returns-3 c =
     let t = c .before .before .before .before .before .before .before .before in
+    let g = t .before in
+    let d = g .before .before .before .before .before in
+    let a = begin g .args in
     way-light
     (a .m) (a .r) (a .n) (now (a .responses)) (now (a .delays)) (a .rate) (length (now (a .left))) (length (now (a .right)))
-    (now (a .cartesian)) (now (a .neighbours)) (a .position) (a .nearest) (d .distance .result) (e .entries .result) (listOf (g .gather .result)) (t .total .result)
+    (now (a .cartesian)) (now (a .neighbours)) (a .position) (a .nearest) (d .distance .result) (points g) (t .total .result)
     (c .before .before .before .before .extract-filter2 .ensures)
     (d .distance .ensures)
-    (c .before .before .before .before .before .before .before .before .before .before .before .before .before .if1 .left)
-    (e .entries .ensures)
-    (sym (w .all-known .ensures) ∙ c .before .before .before .before .before .before .before .before .before .before .if2 .taken)
-    (g .gather .ensures .0)
+    (g .before .before .before .before .if1 .left)
+    (met g)
     (t .total .ensures)
-    (c .before .before .before .before .before .before .before .if3 .taken)
+    (c .before .before .before .before .before .before .before .if2 .taken)
 
 divided-requires : tie.Need-divided-requires
 divided-requires c κs = tt
 
 blend-requires : tie.Need-blend-requires
 blend-requires c κs =
-    let s = c .before .before .before .before .before .before .before .before .before .before .before .before .before .before .before .before .before in
-    (s .pre .0, c .before .before .divided .ensures .1 (s .args .m) (c .before .before .before .before .before .gather .ensures .1), s .pre .4)
-
-same-length-5 : tie.Need-same-length-5
-same-length-5 c = c .before .before .before .before .blend .kept .1 .1 .1 .1 .1 .1 .1 .0
-
-same-length-6 : tie.Need-same-length-6
-same-length-6 c = c .before .before .before .before .blend .kept .1 .1 .1 .1 .1 .1 .1 .1 .0
-
-returns-3 : tie.Need-returns-3
-returns-3 c =
-    let a = c .before .before .before .before .before .before .before .before .before .before .before .before .before .before .before .before .before .before .before .before .before .before .args in
-    let d = c .before .before .before .before .before .before .before .before .before .before .before .before .before .before .before in
-    let e = c .before .before .before .before .before .before .before .before .before .before .before .before .before in
-    let w = c .before .before .before .before .before .before .before .before .before .before .before .before in
-    let g = c .before .before .before .before .before .before .before .before .before .before in
-    let t = c .before .before .before .before .before .before .before .before .before in
-    let v = c .before .before .before .before .before .before .before in
-    way-blended
-    (a .m) (a .r) (a .n) (now (a .responses)) (now (a .delays)) (a .rate) (length (now (a .left))) (length (now (a .right)))
-    (now (a .cartesian)) (now (a .neighbours)) (a .position) (a .nearest) (d .distance .result) (e .entries .result) (listOf (g .gather .result)) (t .total .result) (listOf (v .divided .result))
-    (c .before .before .before .before .blend .ensures)
-    (d .distance .ensures)
-    (c .before .before .before .before .before .before .before .before .before .before .before .before .before .before .if1 .left)
-    (e .entries .ensures)
-    (sym (w .all-known .ensures) ∙ c .before .before .before .before .before .before .before .before .before .before .before .if2 .taken)
-    (g .gather .ensures .0)
-    (t .total .ensures)
-    (c .before .before .before .before .before .before .before .before .if3 .left)
-    (v .divided .ensures .0)
-
-refuse-requires : tie.Need-refuse-requires
-refuse-requires c κs = tt
+    let g = c .before .before .before .before .before in
+    let z = begin g in
+    (z .pre .0, c .before .before .divided .ensures .1 (z .args .m) (met g .2), z .pre .4)
 
 same-length-7 : tie.Need-same-length-7
-same-length-7 c = c .before .before .before .before .refuse .kept .1 .1 .0
+same-length-7 c = c .before .before .before .before .blend .kept .1 .1 .1 .1 .1 .1 .1 .0
 
 same-length-8 : tie.Need-same-length-8
-same-length-8 c = c .before .before .before .before .refuse .kept .1 .1 .1 .0
+same-length-8 c = c .before .before .before .before .blend .kept .1 .1 .1 .1 .1 .1 .1 .1 .0
 
 returns-4 : tie.Need-returns-4
 returns-4 c =
-    let a = c .before .before .before .before .before .before .before .before .before .before .before .before .before .before .before .before .before .before .args in
-    let d = c .before .before .before .before .before .before .before .before .before .before .before in
-    let e = c .before .before .before .before .before .before .before .before .before in
-    let w = c .before .before .before .before .before .before .before .before in
-    way-refused
+    let v = c .before .before .before .before .before .before .before in
+    let t = v .before .before in
+    let g = t .before in
+    let d = g .before .before .before .before .before in
+    let a = begin g .args in
+    way-blended
     (a .m) (a .r) (a .n) (now (a .responses)) (now (a .delays)) (a .rate) (length (now (a .left))) (length (now (a .right)))
-    (now (a .cartesian)) (now (a .neighbours)) (a .position) (a .nearest) (d .distance .result) (e .entries .result)
-    (c .before .before .before .before .refuse .ensures)
+    (now (a .cartesian)) (now (a .neighbours)) (a .position) (a .nearest) (d .distance .result) (points g) (t .total .result) (listOf (v .divided .result))
+    (c .before .before .before .before .blend .ensures)
     (d .distance .ensures)
-    (c .before .before .before .before .before .before .before .before .before .before .if1 .left)
-    (e .entries .ensures)
-    (sym (w .all-known .ensures) ∙ c .before .before .before .before .before .before .before .if2 .left)
+    (g .before .before .before .before .if1 .left)
+    (met g)
+    (t .total .ensures)
+    (v .before .if2 .left)
+    (v .divided .ensures .0)
 
 pub interpolate-spec : {M : Type 1} → statement M
 interpolate-spec =
@@ -150,20 +158,20 @@ interpolate-spec =
     same-length
     same-length-2
     returns
-    entries-requires
-    all-known-requires
     gather-requires
-    total-requires
-    extract-filter-requires-2
+    enum-known-gathered
+    enum-told
+    refuse-requires
     same-length-3
     same-length-4
     returns-2
-    divided-requires
-    blend-requires
+    total-requires
+    extract-filter-requires-2
     same-length-5
     same-length-6
     returns-3
-    refuse-requires
+    divided-requires
+    blend-requires
     same-length-7
     same-length-8
     returns-4)
