@@ -82,7 +82,7 @@ fn entry_at(neighbours: &[u16], m: usize, k: usize, j: usize) -> Entry
     entry_of(m, neighbours[6 * k + j])
 }
 
-// What the next one must be below: below the largest f32 is the first.
+// What the next one must be below: the first, below the largest f32.
 fn limit(best: Closest) -> f32
     ensures { λ r. ⌜ r ≡ least best ⌝ }
 {
@@ -184,7 +184,7 @@ fn add_closer_neighbor(
     Gathered::Points(p)
 }
 
-// The pair of entries j and j + 1 of measurement k.
+// The closer of entries j and j + 1 of measurement k.
 fn add_pair(
     p: Points,
     cartesian: &[f32],
