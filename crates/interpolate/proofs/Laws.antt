@@ -7,7 +7,7 @@ use mathlib.Core.List.{List, [], _∷_, _++_, map}
 use native.Mathlib.Nat.{mul-le-mul-right, suc-mul, mul-le-mul}
 use native.Mathlib.Omega.{arith}
 use lib.Dec.{leb, eqb, ltb}
-use lib.ListN.{length, length-append, take, replicate}
+use lib.ListN.{length, take, replicate}
 use lib.Ieee.{Float, lt}
 use borrow.Author.Tests.{eqb-true, leb-true, eq-eqb, ne-eqb, ltb-true, le-leb, lt-leb, lt-ltb, le-ltb}
 use Rattle.points.specs.declared.Point3.{Point3}
@@ -18,9 +18,9 @@ use Rattle.delays.specs.declared.Outcome.the-variants.{Exact, Blended}
 use Rattle.delays.specs.Delays.{secondsOf}
 use Rattle.mix.specs.declared.Share.{Share}
 use Rattle.mix.specs.declared.Points.{Points}
-use Rattle.mix.specs.Mix.{listOf, Placed, sums, tailed, plus, outOf, tapOf, sampleOf}
+use Rattle.mix.specs.Mix.{listOf, sums, tailed, plus, outOf, tapOf, sampleOf}
 use Rattle.interpolate.specs.declared.Stride.{Stride}
-use Rattle.interpolate.specs.Blend.{delayAt, plainDelay, blendDelay, at, nowhere, strideOf, entryOf, within, entryIn, good, known, allKnown, least, closer, beside, metOf, shareOf, taken, pairIn, pairOf, tiny32, close32, Neighbors, neighborsOf, distanceOf, pointsOf, Gathers, Filter, filterOf, extractOf, blendOf, refusedOf, weighedOf, interpolateOf, pick, totalOf, part}
+use Rattle.interpolate.specs.Blend.{delayAt, plainDelay, blendDelay, at, nowhere, strideOf, entryOf, within, entryIn, good, known, allKnown, least, closer, beside, closestOf, metIf, Held, shareOf, taken, tiny32, close32, Neighbors, neighborsOf, distanceOf, pointsOf, Gathers, Filter, filterOf, extractOf, blendOf, refusedOf, weighedOf, interpolateOf, pick, totalOf, part}
 use Rattle.interpolate.specs.declared.Entry.{Entry}
 use Rattle.interpolate.specs.declared.Entry.the-variants.{Absent, Measured, Bad}
 use Rattle.interpolate.specs.declared.Closest.{Closest}
@@ -129,12 +129,12 @@ module _ (m : ℕ) (s : Neighbors) where
       go : (x c d e f : Bool) → x ≡ true → (c && d) ≡ false → (x && c && d && e && f) ≡ false
       go x c d e f h g = rw (h, g)
 
-  pub third-left : (known m (s .«phi_plus») && known m (s .«phi_minus»)) ≡ true → (known m (s .«theta_plus») && known m (s .«theta_minus»)) ≡ true
-      → (known m (s .«radius_plus») && known m (s .«radius_minus»)) ≡ allKnown m s
+  pub third-is : (known m (s .«phi_plus») && known m (s .«phi_minus»)) ≡ true → (known m (s .«theta_plus») && known m (s .«theta_minus»)) ≡ true
+      → (t : Bool) → (known m (s .«radius_plus») && known m (s .«radius_minus»)) ≡ t → allKnown m s ≡ t
   unfolding allKnown
-  third-left h g = go (known m (s .«phi_plus») && known m (s .«phi_minus»)) (known m (s .«theta_plus»)) (known m (s .«theta_minus»)) (known m (s .«radius_plus»)) (known m (s .«radius_minus»)) h g
+  third-is h g t w = go (known m (s .«phi_plus») && known m (s .«phi_minus»)) (known m (s .«theta_plus»)) (known m (s .«theta_minus»)) (known m (s .«radius_plus»)) (known m (s .«radius_minus»)) h g ∙ w
     where
-      go : (x c d e f : Bool) → x ≡ true → (c && d) ≡ true → (e && f) ≡ (x && c && d && e && f)
+      go : (x c d e f : Bool) → x ≡ true → (c && d) ≡ true → (x && c && d && e && f) ≡ (e && f)
       go x c d e f h g = rw (h, g)
 
 -- ---- the four places
@@ -206,35 +206,49 @@ module _ (d : ℕ → Float) (best : Closest) (k : ℕ) (x l : Float) (ex : x �
   unfolding closer
   closer-stays h = rw (← ex, ← el, h)
 
--- what it says that an entry was met
-pub met-best : (e : Entry) (c x : Closest) → metOf e c ≡ met.Best x → (good e ≡ true) × (c ≡ x)
-met-best Absent c x h = (refl, cc)
-met-best (Measured k) c x h = (refl, cc)
-met-best Bad c x h = let w : _≡_ {A = ℕ} 0 1 = cc in absurd (omega arith)
+-- what it says that the entries so far were met
+pub met-best : (g : Bool) (c x : Closest) → metIf g c ≡ met.Best x → (g ≡ true) × (c ≡ x)
+met-best true c x h = (refl, cc)
+met-best false c x h = let w : _≡_ {A = ℕ} 0 1 = cc in absurd (omega arith)
 
-pub met-bad : (e : Entry) (c : Closest) → metOf e c ≡ met.Bad → good e ≡ false
-met-bad Absent c h = let w : _≡_ {A = ℕ} 0 1 = cc in absurd (omega arith)
-met-bad (Measured k) c h = let w : _≡_ {A = ℕ} 0 1 = cc in absurd (omega arith)
-met-bad Bad c h = refl
+pub met-bad : (g : Bool) (c : Closest) → metIf g c ≡ met.Bad → g ≡ false
+met-bad true c h = let w : _≡_ {A = ℕ} 0 1 = cc in absurd (omega arith)
+met-bad false c h = refl
+
+-- a pair: its first entry was met, with this outcome
+module _ (m : ℕ) (d : ℕ → Float) (x y : ℕ) (a : Entry) (one : Met) (ea : a ≡ entryIn m x) (e1 : one ≡ metIf (good a) (beside d Nothing a)) where
+  pub pair-bad : one ≡ met.Bad → met.Bad ≡ metIf (known m x && known m y) (closestOf d x y)
+  unfolding known
+  pair-bad g = let h = met-bad (good a) (beside d Nothing a) (sym e1 ∙ g) in rw (← ea, h)
+
+  pub pair-met : (b : Entry) (first : Closest) → one ≡ met.Best first → b ≡ entryIn m y → metIf (good b) (beside d first b) ≡ metIf (known m x && known m y) (closestOf d x y)
+  unfolding known closestOf
+  pair-met b first g eb =
+      let h = met-best (good a) (beside d Nothing a) first (sym e1 ∙ g) in
+      let kx : known m x ≡ true = rw (← ea) (h .0) in
+      let f : first ≡ beside d Nothing (entryOf x) = sym (h .1) ∙ ap (beside d Nothing) (ea ∙ known-within m x kx) in
+      rw (eb, f, kx) (go (known m y) refl)
+    where
+      go : (t : Bool) → known m y ≡ t → metIf (good (entryIn m y)) (beside d (beside d Nothing (entryOf x)) (entryIn m y)) ≡ metIf (good (entryIn m y)) (beside d (beside d Nothing (entryOf x)) (entryOf y))
+      go true e = ap (λ (z : Entry). metIf (good (entryIn m y)) (beside d (beside d Nothing (entryOf x)) z)) (known-within m y e)
+      go false e = rw e
 
 -- at most one is taken
-pub pair-length : (d : ℕ → Float) (a b : Entry) → length (pairIn d a b) ≤ 1
-unfolding pairIn
-pair-length d a b = go (beside d (beside d Nothing a) b)
+pub taken-length : (b : Closest) → length (taken b) ≤ 1
+taken-length Nothing = omega arith
+taken-length (At k e) = two (lt tiny32 e) (shareOf k e)
   where
     two : (t : Bool) (s : Share) → length (cond t (s ∷ []) []) ≤ 1
     two true s = omega arith
     two false s = omega arith
 
-    go : (b : Closest) → length (taken b) ≤ 1
-    go Nothing = omega arith
-    go (At k e) = two (lt tiny32 e) (shareOf k e)
+pub taken-yes : (k : ℕ) (x : Float) (b : Closest) → b ≡ At k x → lt tiny32 x ≡ true → taken b ≡ shareOf k x ∷ []
+taken-yes k x b e h = ap taken e ∙ rw h
+
+pub taken-no : (k : ℕ) (x : Float) (b : Closest) → b ≡ At k x → lt tiny32 x ≡ false → taken b ≡ []
+taken-no k x b e h = ap taken e ∙ rw h
 
 -- a closest is a measurement
-abbrev Held : ℕ → Closest → Type 0
-Held m Nothing = Unit
-Held m (At k e) = k < m
-
 held-closer : (m : ℕ) (d : ℕ → Float) (b : Closest) (k : ℕ) → k < m → Held m b → Held m (closer d b k)
 unfolding closer
 held-closer m d b k hk h = go (lt (d k) (least b))
@@ -248,46 +262,11 @@ held-beside m d b Absent w h = h
 held-beside m d b (Measured k) w h = held-closer m d b k (within-below m k w) h
 held-beside m d b Bad w h = h
 
--- both entries were met, with these outcomes
-module _ (d : ℕ → Float) (a b : Entry) (one two : Met) (first best : Closest) (e1 : one ≡ metOf a (beside d Nothing a)) (g1 : one ≡ met.Best first) (e2 : two ≡ metOf b (beside d first b)) (g2 : two ≡ met.Best best) where
-  pub both-good : (good a && good b) ≡ true
-  both-good = ap (λ (t : Bool). t && good b) (met-best a (beside d Nothing a) first (sym e1 ∙ g1) .0) ∙ met-best b (beside d first b) best (sym e2 ∙ g2) .0
-
-  pub closest : beside d (beside d Nothing a) b ≡ best
-  closest = ap (λ (x : Closest). beside d x b) (met-best a (beside d Nothing a) first (sym e1 ∙ g1) .1) ∙ met-best b (beside d first b) best (sym e2 ∙ g2) .1
-
-module _ (d : ℕ → Float) (a b : Entry) where
-  pub pair-none : beside d (beside d Nothing a) b ≡ Nothing → pairIn d a b ≡ []
-  unfolding pairIn
-  pair-none e = ap taken e
-
-  module _ (k : ℕ) (x : Float) (e : beside d (beside d Nothing a) b ≡ At k x) where
-    pub pair-yes : lt tiny32 x ≡ true → pairIn d a b ≡ shareOf k x ∷ []
-    unfolding pairIn
-    pair-yes h = ap taken e ∙ rw h
-
-    pub pair-no : lt tiny32 x ≡ false → pairIn d a b ≡ []
-    unfolding pairIn
-    pair-no h = ap taken e ∙ rw h
-
-    pub pair-in : (m : ℕ) → within m a ≡ a → within m b ≡ b → k < m
-    pair-in m wa wb = subst (Held m) e (held-beside m d (beside d Nothing a) b wb (held-beside m d Nothing a wa tt))
-
--- ---- what was gathered, said of other words for the same
-pub gathers : (m : ℕ) {f f' : Bool} {ps ps' : List Share} (g : Gathered) → f ≡ f' → ps ≡ ps' → Gathers m f ps g → Gathers m f' ps' g
-gathers m (gathered.Points p) ef ep h = (sym ef ∙ h .0, h .1 ∙ ep, h .2)
-gathers m gathered.Bad ef ep h = sym ef ∙ h
-
--- a pair of entries that were met, and the two as they stand
-pub pair-met : (m : ℕ) (d : ℕ → Float) (ps : List Share) (x y : ℕ) (a b : Entry) (g : Gathered) → a ≡ entryIn m x → b ≡ entryIn m y
-    → Gathers m (good a && good b) (ps ++ pairIn d a b) g → Gathers m (known m x && known m y) (ps ++ pairOf d x y) g
-unfolding known
-pair-met m d ps x y a b gathered.Bad ea eb h = rw (← ea, ← eb) h
-pair-met m d ps x y a b (gathered.Points p) ea eb h =
-    let t : (known m x && known m y) ≡ true = rw (← ea, ← eb) (h .0) in
-    let qa : a ≡ entryOf x = ea ∙ known-within m x (and-left (known m x) (known m y) t) in
-    let qb : b ≡ entryOf y = eb ∙ known-within m y (and-right (known m x) (known m y) t) in
-    (t, h .1 ∙ rw (qa, qb), h .2)
+pub closest-held : (m : ℕ) (d : ℕ → Float) (x y : ℕ) → (known m x && known m y) ≡ true → Held m (closestOf d x y)
+unfolding closestOf
+closest-held m d x y h =
+    held-beside m d (beside d Nothing (entryOf x)) (entryOf y) (known-within m y (and-right (known m x) (known m y) h))
+    (held-beside m d Nothing (entryOf x) (known-within m x (and-left (known m x) (known m y) h)) tt)
 
 -- ---- one point more
 pub push1 : (p : Points) (s : Share) → p .count ≡ 1 → listOf (record { count = 2; a = p .a; b = s; c = p .c; d = p .d }) ≡ listOf p ++ (s ∷ [])
@@ -301,9 +280,6 @@ push2 p s e = sym (ap (λ (j : ℕ). take j (fours p) ++ (s ∷ [])) e)
 pub push3 : (p : Points) (s : Share) → p .count ≡ 3 → listOf (record { count = 4; a = p .a; b = p .b; c = p .c; d = s }) ≡ listOf p ++ (s ∷ [])
 unfolding listOf
 push3 p s e = sym (ap (λ (j : ℕ). take j (fours p) ++ (s ∷ [])) e)
-
-pub one-more : (m : ℕ) (p q : Points) (ps : List Share) → p .count ≤ 4 → Placed m q → listOf q ≡ listOf p ++ ps → length ps ≤ 1 → q .count ≤ p .count + 1
-one-more m p q ps hp hq e h = omega (arith, count-length p hp, count-length q (hq .four), ap length e ∙ length-append (listOf p) ps)
 
 pub divided-list : (p : Points) (sum : Float) (a b c d : Share) → a ≡ part sum (p .a) → b ≡ part sum (p .b) → c ≡ part sum (p .c) → d ≡ part sum (p .d)
     → listOf (record { count = p .count; a = a; b = b; c = c; d = d }) ≡ map (part sum) (listOf p)

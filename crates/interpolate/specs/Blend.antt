@@ -1,7 +1,7 @@
 -- Document 01's "Blend": which points are blended with which weights, which delays are meant, and what a filter query then answers and writes.
 -- Definitions only.
 use mathlib.Core.Path.{_≡_}
-use Prim.Native.Nat.{ℕ, _+_, _*_}
+use Prim.Native.Nat.{ℕ, _+_, _*_, _<_}
 use mathlib.Core.Bool.{Bool, true, false, cond, _&&_}
 use mathlib.Core.List.{List, [], _∷_, _++_, map}
 use lib.Dec.{eqb, leb, ltb}
@@ -79,11 +79,19 @@ beside d best Absent = best
 beside d best (Measured k) = closer d best k
 beside d best Bad = best
 
--- that closest, unless the entry is bad
-abbrev pub metOf : Entry → Closest → Met
-metOf Absent best = met.Best best
-metOf (Measured k) best = met.Best best
-metOf Bad best = met.Bad
+-- the closest of a pair as it stands
+unfoldable pub closestOf : (ℕ → Float) → ℕ → ℕ → Closest
+closestOf d a b = beside d (beside d Nothing (entryOf a)) (entryOf b)
+
+-- what the code answers of a closest: itself where all entries are good
+abbrev pub metIf : Bool → Closest → Met
+metIf true best = met.Best best
+metIf false best = met.Bad
+
+-- a closest is one of m measurements
+abbrev pub Held : ℕ → Closest → Type 0
+Held m Nothing = Unit
+Held m (At k e) = k < m
 
 -- the weight is 1 / distance
 abbrev pub shareOf : ℕ → Float → Share
@@ -94,11 +102,8 @@ abbrev pub taken : Closest → List Share
 taken Nothing = []
 taken (At k e) = cond (lt tiny32 e) (shareOf k e ∷ []) []
 
-unfoldable pub pairIn : (ℕ → Float) → Entry → Entry → List Share
-pairIn d a b = taken (beside d (beside d Nothing a) b)
-
 abbrev pub pairOf : (ℕ → Float) → ℕ → ℕ → List Share
-pairOf d a b = pairIn d (entryOf a) (entryOf b)
+pairOf d a b = taken (closestOf d a b)
 
 -- ---- the points, in order: the nearest k, then the closer of each pair
 abbrev pub entry : List ℕ → ℕ → ℕ → ℕ
@@ -123,7 +128,7 @@ allKnown m s = known m (s .«phi_plus») && known m (s .«phi_minus») && known 
 unfoldable pub pointsOf : (ℕ → Float) → Neighbors → ℕ → List Share
 pointsOf d s k = (((shareOf k (d k) ∷ []) ++ pairOf d (s .«phi_plus») (s .«phi_minus»)) ++ pairOf d (s .«theta_plus») (s .«theta_minus»)) ++ pairOf d (s .«radius_plus») (s .«radius_minus»)
 
--- what the code answers of them: where all entries are good the points ps, every place a measurement of m
+-- what the code answers of them: where all entries are good the points ps, in places that all hold measurements
 abbrev pub Gathers : ℕ → Bool → List Share → Gathered → Type 0
 Gathers m fine ps (gathered.Points p) = (fine ≡ true) × (listOf p ≡ ps) × Placed m p
 Gathers m fine ps gathered.Bad = fine ≡ false

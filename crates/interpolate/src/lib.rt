@@ -12,7 +12,7 @@ ghost use Prim.Native.Nat.{ℕ, _+_, _*_, _≤_, _<_};
 ghost use lib.ListN.{length};
 ghost use Rattle.floats.specs.Floats.{zero32};
 ghost use Rattle.mix.specs.Mix.{sums, listOf, Sized, Placed};
-ghost use Rattle.interpolate.specs.Blend.{distanceOf, entryIn, within, good, least, closer, metOf, pairIn, pairOf, neighborsOf, pointsOf, allKnown, Gathers, totalOf, part, strideOf, delayAt, plainDelay, blendDelay, filterOf, extractOf, blendOf, refusedOf, interpolateOf};
+ghost use Rattle.interpolate.specs.Blend.{distanceOf, entryIn, within, good, least, closer, metIf, closestOf, Held, taken, neighborsOf, pointsOf, allKnown, Gathers, totalOf, part, strideOf, delayAt, plainDelay, blendDelay, filterOf, extractOf, blendOf, refusedOf, interpolateOf};
 ghost use Rattle.interpolate.specs.Blend as Blend;
 use delays::Outcome;
 use delays::Samples;
@@ -107,7 +107,7 @@ fn nearer(cartesian: &[f32], position: Point3, best: Closest, k: usize) -> Close
 // An entry beside the closest so far.
 fn meet(cartesian: &[f32], position: Point3, m: usize, best: Closest, e: Entry) -> Met
     requires { ⌜ (within m e ≡ e) × (3 * m ≤ length (now cartesian)) ⌝ }
-    ensures { λ r. ⌜ r ≡ metOf e (Blend.beside (distanceOf (now (cartesian .entry)) position) best e) ⌝ }
+    ensures { λ r. ⌜ r ≡ metIf (good e) (Blend.beside (distanceOf (now (cartesian .entry)) position) best e) ⌝ }
 {
     match e {
         Entry::Absent => Met::Best(best),
@@ -151,56 +151,44 @@ fn push(p: Points, s: Share) -> Points
     }
 }
 
-// The closer of a pair, the first on a tie, if it is taken.
-fn add_closer_neighbor(
-    p: Points,
-    cartesian: &[f32],
-    position: Point3,
-    m: usize,
-    a: Entry,
-    b: Entry,
-) -> Gathered
-    requires { ⌜ Placed m p × (p .count ≤ 3) × (within m a ≡ a) × (within m b ≡ b) × (3 * m ≤ length (now cartesian)) ⌝ }
-    ensures { λ r. ⌜ Gathers m (good a && good b) (listOf p ++ pairIn (distanceOf (now (cartesian .entry)) position) a b) r ⌝ }
+// The closest of a pair, if it is taken.
+fn add_closer_neighbor(p: Points, best: Closest) -> Points
+    requires { ⌜ (1 ≤ p .count) × (p .count ≤ 3) ⌝ }
+    ensures { λ r. ⌜ (listOf r ≡ listOf p ++ taken best) × (r .count ≤ p .count + 1) × ((m : ℕ) → Placed m p → Held m best → Placed m r) ⌝ }
 {
-    let one = meet(cartesian, position, m, Closest::Nothing, a);
-    let Met::Best(first) = one else {
-        return Gathered::Bad;
-    };
-    let two = meet(cartesian, position, m, first, b);
-    let Met::Best(best) = two else {
-        return Gathered::Bad;
-    };
     let Closest::At(k, d) = best else {
-        return Gathered::Points(p);
+        return p;
     };
     if 1e-10 < d {
         let s = Share {
             number: k,
             weight: 1.0 / d,
         };
-        return Gathered::Points(push(p, s));
+        return push(p, s);
     }
-    Gathered::Points(p)
+    p
 }
 
-// The closer of entries j and j + 1 of measurement k.
-fn add_pair(
-    p: Points,
+// The closer of entries j and j + 1 of measurement k, the first on a tie.
+fn closer_neighbor(
     cartesian: &[f32],
     neighbours: &[u16],
     position: Point3,
     m: usize,
     k: usize,
     j: usize,
-) -> Gathered
-    requires { ⌜ Placed m p × (p .count ≤ 3) × (j ≤ 4) × (k < m) × (3 * m ≤ length (now cartesian)) × (6 * m ≤ length (now neighbours)) ⌝ }
-    ensures { λ r. ⌜ Gathers m (Blend.known m (Blend.entry (now (neighbours .entry)) k j) && Blend.known m (Blend.entry (now (neighbours .entry)) k (j + 1)))
-        (listOf p ++ pairOf (distanceOf (now (cartesian .entry)) position) (Blend.entry (now (neighbours .entry)) k j) (Blend.entry (now (neighbours .entry)) k (j + 1))) r ⌝ }
+) -> Met
+    requires { ⌜ (j ≤ 4) × (k < m) × (3 * m ≤ length (now cartesian)) × (6 * m ≤ length (now neighbours)) ⌝ }
+    ensures { λ r. ⌜ r ≡ metIf (Blend.known m (Blend.entry (now (neighbours .entry)) k j) && Blend.known m (Blend.entry (now (neighbours .entry)) k (j + 1)))
+        (closestOf (distanceOf (now (cartesian .entry)) position) (Blend.entry (now (neighbours .entry)) k j) (Blend.entry (now (neighbours .entry)) k (j + 1))) ⌝ }
 {
     let a = entry_at(neighbours, m, k, j);
+    let one = meet(cartesian, position, m, Closest::Nothing, a);
+    let Met::Best(first) = one else {
+        return Met::Bad;
+    };
     let b = entry_at(neighbours, m, k, j + 1);
-    add_closer_neighbor(p, cartesian, position, m, a, b)
+    meet(cartesian, position, m, first, b)
 }
 
 // The points to blend, d being the distance to the nearest.
@@ -216,6 +204,18 @@ fn gather(
     ensures { λ r. ⌜ Gathers m (allKnown m (neighborsOf (now (neighbours .entry)) nearest))
         (pointsOf (distanceOf (now (cartesian .entry)) position) (neighborsOf (now (neighbours .entry)) nearest) nearest) r ⌝ }
 {
+    let azimuth = closer_neighbor(cartesian, neighbours, position, m, nearest, 0);
+    let Met::Best(a) = azimuth else {
+        return Gathered::Bad;
+    };
+    let elevation = closer_neighbor(cartesian, neighbours, position, m, nearest, 2);
+    let Met::Best(b) = elevation else {
+        return Gathered::Bad;
+    };
+    let radius = closer_neighbor(cartesian, neighbours, position, m, nearest, 4);
+    let Met::Best(c) = radius else {
+        return Gathered::Bad;
+    };
     let first = Share {
         number: nearest,
         weight: 1.0 / d,
@@ -227,15 +227,9 @@ fn gather(
         c: first,
         d: first,
     };
-    let azimuth = add_pair(p, cartesian, neighbours, position, m, nearest, 0);
-    let Gathered::Points(p1) = azimuth else {
-        return Gathered::Bad;
-    };
-    let elevation = add_pair(p1, cartesian, neighbours, position, m, nearest, 2);
-    let Gathered::Points(p2) = elevation else {
-        return Gathered::Bad;
-    };
-    add_pair(p2, cartesian, neighbours, position, m, nearest, 4)
+    let p1 = add_closer_neighbor(p, a);
+    let p2 = add_closer_neighbor(p1, b);
+    Gathered::Points(add_closer_neighbor(p2, c))
 }
 
 // The sum of the weights.

@@ -17,7 +17,7 @@ use Rattle.mix.specs.declared.Share.{Share}
 use Rattle.interpolate.specs.declared.Closest.{Closest}
 use Rattle.interpolate.specs.declared.Closest.the-variants as port
 use Rattle.interpolate.specs.Blend as blend
-use Rattle.interpolate.specs.Blend.{tiny32, largest32, distanceOf, entryOf, least, beside, taken, pairIn, pairOf, totalFrom}
+use Rattle.interpolate.specs.Blend.{tiny32, largest32, distanceOf, entryOf, least, beside, closestOf, taken, pairOf, totalFrom}
 use Rattle.source.specs.Rust.{Option, None, Some, at, MAX}
 use Rattle.source.specs.Lookup.{triplet}
 use Rattle.source.specs.Interpolate.{«1e-10», Weighted, Closer, distance, closer, pushed, «add_closer_neighbor», sumFrom}
@@ -104,7 +104,7 @@ module _ (xs : List Float) (m : ℕ) (small : m ≤ 16384) (long : 3 * m ≤ len
   pushed-same l (Some k) x (port.At n e) t = rw (t .0, t .1) (if-listed (lt tiny32 e) l (weighed n e))
 
   pub pair-same : (l : List Weighted) (a b : Option ℕ) → InSet m a → InSet m b → listed («add_closer_neighbor» l a b q sp 3) ≡ listed l ++ pairOf d (entered a) (entered b)
-  unfolding «add_closer_neighbor» pairIn
+  unfolding «add_closer_neighbor» closestOf
   pair-same l a b ha hb =
       let none : Closer = record { «best_idx» = None; «best_dist» = MAX } in
       let first = beside d port.Nothing (entryOf (entered a)) in

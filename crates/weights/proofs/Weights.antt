@@ -20,12 +20,12 @@ use Rattle.points.specs.declared.Point3.{Point3}
 use Rattle.mix.specs.declared.Share.{Share}
 use Rattle.delays.specs.declared.Seconds.{Seconds}
 use Rattle.delays.specs.declared.Outcome.the-variants.{Exact, Blended, Refused}
-use Rattle.interpolate.specs.Blend.{close32, tiny32, largest32, totalFrom, totalOf, part, shareOf, entryOf, within, known, allKnown, least, closer, beside, taken, pairIn, pairOf, Neighbors, pointsOf, distanceOf, neighborsOf, Filter, pick, extractOf, blendOf, weighedOf, refusedOf, interpolateOf}
+use Rattle.interpolate.specs.Blend.{close32, tiny32, largest32, totalFrom, totalOf, part, shareOf, entryOf, within, known, allKnown, least, closer, beside, closestOf, taken, pairOf, Neighbors, pointsOf, distanceOf, neighborsOf, Filter, pick, extractOf, blendOf, weighedOf, refusedOf, interpolateOf}
 use Rattle.interpolate.specs.declared.Entry.{Entry}
 use Rattle.interpolate.specs.declared.Entry.the-variants as entry
 use Rattle.interpolate.specs.declared.Closest.{Closest}
 use Rattle.interpolate.specs.declared.Closest.the-variants.{Nothing, At}
-use Rattle.interpolate.proofs.Laws.{within-below, known-within, neighbors-known, pair-length}
+use Rattle.interpolate.proofs.Laws.{within-below, known-within, neighbors-known, taken-length}
 use Rattle.lists.specs.Each.{Each}
 use Rattle.weights.specs.Weights.{Measured, Portion, Shared}
 use Rattle.weights.proofs.Distances.{distance-nonneg}
@@ -227,7 +227,7 @@ pub points-count : (d : ℕ → Float) (s : Neighbors) (k : ℕ) → (1 ≤ leng
 unfolding pointsOf
 points-count d s k = (
   simp length-append (omega arith),
-  simp length-append (omega (arith, pair-length d (entryOf (s .«phi_plus»)) (entryOf (s .«phi_minus»)), pair-length d (entryOf (s .«theta_plus»)) (entryOf (s .«theta_minus»)), pair-length d (entryOf (s .«radius_plus»)) (entryOf (s .«radius_minus»)))),
+  simp length-append (omega (arith, taken-length (closestOf d (s .«phi_plus») (s .«phi_minus»)), taken-length (closestOf d (s .«theta_plus») (s .«theta_minus»)), taken-length (closestOf d (s .«radius_plus») (s .«radius_minus»)))),
 )
 
 -- ---- all of them sound, where no measurement's distance is negative or a NaN and the nearest's is not below 1e-6
@@ -258,7 +258,7 @@ module _ (m : ℕ) (d : ℕ → Float) (h : (j : ℕ) → j < m → T (nonneg (d
   largest-nonneg = tt
 
   pair-sound : (a b : ℕ) → known m a ≡ true → known m b ≡ true → Each Sound (pairOf d a b)
-  unfolding pairIn
+  unfolding closestOf
   pair-sound a b ka kb =
       let first = beside d Nothing (entryOf a) in
       taken-sound (beside d first (entryOf b)) (beside-nonneg first (entryOf b) (known-within m b kb) (beside-nonneg Nothing (entryOf a) (known-within m a ka) largest-nonneg))

@@ -1,7 +1,7 @@
 -- `interpolate::gather` meets its contract: the nearest, then the closer of each pair. Assumes nothing.
-use Prim.Native.Nat.{ℕ, _≤_}
-use mathlib.Core.Path.{ap, subst, _∙_}
-use mathlib.Core.Bool.{_&&_}
+use Prim.Native.Nat.{ℕ}
+use mathlib.Core.Path.{_≡_, sym, ap, subst, _∙_}
+use mathlib.Core.Bool.{true, false, _&&_}
 use mathlib.Core.List.{List, [], _∷_, _++_}
 use native.Mathlib.Nat.{le-refl, le-trans}
 use native.Mathlib.Omega.{arith}
@@ -11,55 +11,56 @@ use lib.Ieee.{Float, ofBits}
 use borrow.Author.Needs.{needs}
 use Rattle.mix.specs.declared.Share.{Share}
 use Rattle.mix.specs.declared.Points.{Points}
-use Rattle.mix.specs.Mix.{listOf}
-use Rattle.interpolate.specs.declared.Gathered.{Gathered}
-use Rattle.interpolate.specs.declared.Gathered.the-variants as gathered
-use Rattle.interpolate.specs.Blend.{distanceOf, entry, entryOf, known, neighborsOf, pairOf, pointsOf, shareOf, Gathers}
-use Rattle.interpolate.proofs.Laws.{first-bad, second-bad, third-left, pair-length, one-more, gathers}
+use Rattle.mix.specs.Mix.{listOf, Placed}
+use Rattle.interpolate.specs.declared.Closest.{Closest}
+use Rattle.interpolate.specs.Blend.{distanceOf, entry, known, closestOf, Held, taken, Neighbors, neighborsOf, pointsOf, shareOf}
+use Rattle.interpolate.proofs.Laws.{met-best, met-bad, closest-held, first-bad, second-bad, third-is}
 use Rattle.interpolate.proofs.gather.Statement.{statement}
 use Rattle.interpolate.proofs.gather.Tie as tie
 
-abbrev dist : tie.Start → ℕ → Float
-dist z = distanceOf (now (z .args .cartesian)) (z .args .position)
+-- entries i and j of the nearest are good, and this is the closest of them
+record Pair (z : tie.Start) (i j : ℕ) (best : Closest) : Type 0 where
+  fine : (known (z .args .m) (entry (now (z .args .neighbours)) (z .args .nearest) i) && known (z .args .m) (entry (now (z .args .neighbours)) (z .args .nearest) j)) ≡ true
+  is : closestOf (distanceOf (now (z .args .cartesian)) (z .args .position)) (entry (now (z .args .neighbours)) (z .args .nearest) i) (entry (now (z .args .neighbours)) (z .args .nearest) j) ≡ best
 
--- entry j of the nearest
-abbrev at : tie.Start → ℕ → ℕ
-at z j = entry (now (z .args .neighbours)) (z .args .nearest) j
+held : (z : tie.Start) (i j : ℕ) (best : Closest) → Pair z i j best → Held (z .args .m) best
+held z i j best p = subst (Held (z .args .m)) (p .is) (closest-held (z .args .m) (distanceOf (now (z .args .cartesian)) (z .args .position)) _ _ (p .fine))
 
--- the nearest, alone
-abbrev share : tie.Start → Share
-share z = shareOf (z .args .nearest) (z .args .d)
+abbrev six : tie.Start → Neighbors
+six z = neighborsOf (now (z .args .neighbours)) (z .args .nearest)
 
-abbrev begun : tie.Start → Points
-begun z = record { count = 1; a = share z; b = share z; c = share z; d = share z }
-
--- what entries i and j add to the points p
-abbrev With : tie.Start → ℕ → ℕ → Points → Gathered → Type 0
-With z i j p g = Gathers (z .args .m) (known (z .args .m) (at z i) && known (z .args .m) (at z j)) (listOf p ++ pairOf (dist z) (at z i) (at z j)) g
-
--- after the first pair, and after the second
+-- after the first pair, after the second, and after the third
 abbrev begin : tie.After-known-told → tie.Start
 begin c = c .before .before .before .before .before .before
 
-abbrev first : tie.After-known-told → Points
-first c = c .before .azimuth .given .0 .0
+one : (c : tie.After-known-told) → Pair (begin c) 0 1 (c .before .azimuth .given .0 .0)
+one c = let h = met-best _ _ _ (sym (c .before .before .before .closer-neighbor .ensures) ∙ c .before .azimuth .given .1) in record { fine = h .0; is = h .1 }
 
-one : (c : tie.After-known-told) → With (begin c) 0 1 (begun (begin c)) (gathered.Points (first c))
+two : (c : tie.After-known-told2) → Pair (begin (c .before .before .before .before)) 2 3 (c .before .elevation .given .0 .0)
+two c = let h = met-best _ _ _ (sym (c .before .before .before .closer-neighbor2 .ensures) ∙ c .before .elevation .given .1) in record { fine = h .0; is = h .1 }
+
+three : (c : tie.After-known-told3) → Pair (begin (c .before .before .before .before .before .before .before .before)) 4 5 (c .before .radius .given .0 .0)
+three c = let h = met-best _ _ _ (sym (c .before .before .before .closer-neighbor3 .ensures) ∙ c .before .radius .given .1) in record { fine = h .0; is = h .1 }
+
+-- what stands in the places: the nearest, then one more, then two
+abbrev begun : tie.Start → Points
+begun z = let s = shareOf (z .args .nearest) (z .args .d) in record { count = 1; a = s; b = s; c = s; d = s }
+
+placed : (z : tie.Start) → Placed (z .args .m) (begun z)
+placed z = let h = z .pre .0 in record { one = le-refl 1; four = lit≤ tt; a-in = h; b-in = h; c-in = h; d-in = h }
+
+placed1 : (c : tie.After-add-closer-neighbor) → Placed (begin (c .before .before .before .before .before .before .before .before .before) .args .m) (c .add-closer-neighbor .result)
 unfolding ofBits
-one c = subst (With (begin c) 0 1 (begun (begin c))) (c .before .azimuth .given .1) (c .before .before .before .add-pair .ensures)
+placed1 c = let f = c .before .before .before .before .before .before .before .before .before in c .add-closer-neighbor .ensures .2 (begin f .args .m) (placed (begin f)) (held (begin f) 0 1 _ (one f))
 
-two : (c : tie.After-known-told2) → With (begin (c .before .before .before .before)) 2 3 (first (c .before .before .before .before)) (gathered.Points (c .before .elevation .given .0 .0))
-two c = subst (With (begin (c .before .before .before .before)) 2 3 (first (c .before .before .before .before))) (c .before .elevation .given .1) (c .before .before .before .add-pair2 .ensures)
+placed2 : (c : tie.After-add-closer-neighbor2) → Placed (begin (c .before .before .before .before .before .before .before .before .before .before) .args .m) (c .add-closer-neighbor2 .result)
+placed2 c = let g = c .before .before .before .before .before .before in c .add-closer-neighbor2 .ensures .2 (begin (g .before .before .before .before) .args .m) (placed1 (c .before)) (held (begin (g .before .before .before .before)) 2 3 _ (two g))
 
-at-most-two : (c : tie.After-known-told) → first c .count ≤ 2
-at-most-two c =
-    let z = begin c in
-    one-more (z .args .m) (begun z) (first c) (pairOf (dist z) (at z 0) (at z 1)) (lit≤ tt) (one c .2) (one c .1) (pair-length (dist z) (entryOf (at z 0)) (entryOf (at z 1)))
+more : (r p ps : List Share) (b c : Closest) → r ≡ p ++ taken b → c ≡ b → p ≡ ps → r ≡ ps ++ taken c
+more r p ps b c e q h = rw (q, ← h) e
 
-add-pair-requires : tie.Need-add-pair-requires
-add-pair-requires c κs =
-    let p = c .before .before .pre in
-    (record { one = le-refl 1; four = lit≤ tt; a-in = p .0; b-in = p .0; c-in = p .0; d-in = p .0 }, lit≤ tt, lit≤ tt, p .0, p .1, p .2)
+closer-neighbor-requires : tie.Need-closer-neighbor-requires
+closer-neighbor-requires c κs = search needs
 
 enum-known-azimuth : tie.Need-enum-known-azimuth
 enum-known-azimuth c = search needs
@@ -68,15 +69,12 @@ enum-told : tie.Need-enum-told
 enum-told c = search needs
 
 returns : tie.Need-returns
-unfolding ofBits
 returns c =
     let z = c .before .before .before .before .before in
-    first-bad (z .args .m) (neighborsOf (now (z .args .neighbours)) (z .args .nearest)) (subst (With z 0 1 (begun z)) (c .enum-told .given .1) (c .before .before .add-pair .ensures))
+    first-bad (z .args .m) (six z) (met-bad _ _ (sym (c .before .before .closer-neighbor .ensures) ∙ c .enum-told .given .1))
 
-add-pair-requires-2 : tie.Need-add-pair-requires-2
-add-pair-requires-2 c κs =
-    let p = begin c .pre in
-    (one c .2, le-trans (at-most-two c) (lit≤ tt), lit≤ tt, p .0, p .1, p .2)
+closer-neighbor-requires-2 : tie.Need-closer-neighbor-requires-2
+closer-neighbor-requires-2 c κs = search needs
 
 enum-known-elevation : tie.Need-enum-known-elevation
 enum-known-elevation c = search needs
@@ -87,41 +85,62 @@ enum-told-2 c = search needs
 returns-2 : tie.Need-returns-2
 returns-2 c =
     let f = c .before .before .before in
-    let z = begin f in
-    second-bad (z .args .m) (neighborsOf (now (z .args .neighbours)) (z .args .nearest)) (one f .0) (subst (With z 2 3 (first f)) (c .enum-told2 .given .1) (c .before .before .add-pair2 .ensures))
+    second-bad (begin f .args .m) (six (begin f)) (one f .fine) (met-bad _ _ (sym (c .before .before .closer-neighbor2 .ensures) ∙ c .enum-told2 .given .1))
 
-add-pair-requires-3 : tie.Need-add-pair-requires-3
-add-pair-requires-3 c κs =
-    let f = c .before .before .before .before in
-    let z = begin f in
-    let p = z .pre in
-    let more = one-more (z .args .m) (first f) _ (pairOf (dist z) (at z 2) (at z 3)) (one f .2 .four) (two c .2) (two c .1) (pair-length (dist z) (entryOf (at z 2)) (entryOf (at z 3))) in
-    (two c .2, omega (arith, more, at-most-two f), lit≤ tt, p .0, p .1, p .2)
+closer-neighbor-requires-3 : tie.Need-closer-neighbor-requires-3
+closer-neighbor-requires-3 c κs = search needs
+
+enum-known-radius : tie.Need-enum-known-radius
+enum-known-radius c = search needs
+
+enum-told-3 : tie.Need-enum-told-3
+enum-told-3 c = search needs
 
 returns-3 : tie.Need-returns-3
-unfolding pointsOf listOf
 returns-3 c =
-    let g = c .before in
+    let g = c .before .before .before in
     let f = g .before .before .before .before in
-    let z = begin f in
-    let d = dist z in
-    gathers (z .args .m) (c .add-pair3 .result) (third-left (z .args .m) (neighborsOf (now (z .args .neighbours)) (z .args .nearest)) (one f .0) (two g .0))
-    (ap (λ (l : List Share). l ++ pairOf d (at z 4) (at z 5)) (two g .1
-    ∙ ap (λ (l : List Share). l ++ pairOf d (at z 2) (at z 3)) (one f .1
-    ∙ ap (λ (x : Float). (shareOf (z .args .nearest) x ∷ []) ++ pairOf d (at z 0) (at z 1)) (z .pre .3))))
-    (c .add-pair3 .ensures)
+    third-is (begin f .args .m) (six (begin f)) (one f .fine) (two g .fine) false (met-bad _ _ (sym (c .before .before .closer-neighbor3 .ensures) ∙ c .enum-told3 .given .1))
+
+add-closer-neighbor-requires : tie.Need-add-closer-neighbor-requires
+add-closer-neighbor-requires c κs = search needs
+
+add-closer-neighbor-requires-2 : tie.Need-add-closer-neighbor-requires-2
+add-closer-neighbor-requires-2 c κs = (placed1 c .one, le-trans (c .add-closer-neighbor .ensures .1) (lit≤ tt))
+
+add-closer-neighbor-requires-3 : tie.Need-add-closer-neighbor-requires-3
+add-closer-neighbor-requires-3 c κs = (placed2 c .one, omega (arith, c .add-closer-neighbor2 .ensures .1, c .before .add-closer-neighbor .ensures .1))
+
+returns-4 : tie.Need-returns-4
+unfolding pointsOf listOf ofBits
+returns-4 c =
+    let h = c .before .before .before in
+    let g = h .before .before .before .before in
+    let f = g .before .before .before .before in
+    let z = begin f in (
+      third-is (z .args .m) (six z) (one f .fine) (two g .fine) true (three h .fine),
+      more _ _ _ _ _ (c .add-closer-neighbor3 .ensures .0) (three h .is) (more _ _ _ _ _ (c .before .add-closer-neighbor2 .ensures .0) (two g .is)
+          (more _ _ _ _ _ (c .before .before .add-closer-neighbor .ensures .0) (one f .is) (ap (λ (x : Float). shareOf (z .args .nearest) x ∷ []) (z .pre .3)))),
+      c .add-closer-neighbor3 .ensures .2 (z .args .m) (placed2 (c .before)) (held z 4 5 _ (three h)),
+    )
 
 pub gather-spec : {M : Type 1} → statement M
 gather-spec =
     tie.close
     (tie.spec
-    add-pair-requires
+    closer-neighbor-requires
     enum-known-azimuth
     enum-told
     returns
-    add-pair-requires-2
+    closer-neighbor-requires-2
     enum-known-elevation
     enum-told-2
     returns-2
-    add-pair-requires-3
-    returns-3)
+    closer-neighbor-requires-3
+    enum-known-radius
+    enum-told-3
+    returns-3
+    add-closer-neighbor-requires
+    add-closer-neighbor-requires-2
+    add-closer-neighbor-requires-3
+    returns-4)

@@ -7,14 +7,14 @@ use Rattle.interpolate.specs.declared.Entry.{Entry}
 use Rattle.interpolate.specs.declared.Closest.{Closest}
 use Rattle.interpolate.specs.declared.Met.{Met}
 use Rattle.interpolate.specs.declared.Met.the-variants.{Best}
-use Rattle.interpolate.specs.Blend.{within, distanceOf, beside, metOf}
+use Rattle.interpolate.specs.Blend.{within, distanceOf, good, beside, metIf}
 use Rattle.interpolate.proofs.Laws.{within-below, three-in}
 use Rattle.interpolate.proofs.meet.Statement.{statement}
 use Rattle.interpolate.proofs.meet.Tie as tie
 
 -- the outcome of entry e
 abbrev out : tie.Start → Entry → Met
-out z e = metOf e (beside (distanceOf (now (z .args .cartesian)) (z .args .position)) (z .args .best) e)
+out z e = metIf (good e) (beside (distanceOf (now (z .args .cartesian)) (z .args .position)) (z .args .best) e)
 
 enum-told : tie.Need-enum-told
 enum-told c = search needs
