@@ -1,12 +1,14 @@
--- One corner of a box replaced: by its number, as the code selects it, and by the axis. Assumes nothing.
+-- What the code does by an index and the definitions by the axis: coordinates, the next axis, one corner of a box replaced. Assumes nothing.
 use mathlib.Core.Path.{_≡_, refl, sym, ap, _∙_}
 use mathlib.Core.Bool.{Bool, true, false, not, cond}
+use mathlib.Core.List.{[], _∷_}
 use Prim.Native.Nat.{ℕ, zero, suc, _+_, _<_, _≤_}
 use native.Mathlib.Omega.{arith}
 use lib.Dec.{eqb}
-use lib.Ieee.{Float}
+use lib.ListN.{getD}
+use lib.Ieee.{Float, nan}
 use Rattle.kdtree.specs.declared.BoundingBox.{BoundingBox}
-use Rattle.kdtree.specs.Geometry.{byAxis, cornerOf, withMin, withMax}
+use Rattle.kdtree.specs.Geometry.{byAxis, nextAxis, cornerOf, withMin, withMax}
 use Rattle.kdtree.specs.Search.{nearerBox, fartherBox}
 
 pub low-same : (n : ℕ) → n < 2 → n ≡ byAxis n 0 1 2
@@ -26,6 +28,25 @@ unfolding byAxis
 low-most zero = omega arith
 low-most (suc zero) = omega arith
 low-most (suc (suc n)) = omega arith
+
+pub next-same : (n : ℕ) → n < 2 → n + 1 ≡ nextAxis n
+unfolding nextAxis byAxis
+next-same zero h = refl
+next-same (suc zero) h = refl
+next-same (suc (suc n)) h = absurd (omega arith)
+
+pub next-none : (n : ℕ) → 2 ≤ n → _≡_ {A = ℕ} 0 (nextAxis n)
+unfolding nextAxis byAxis
+next-none zero h = absurd (omega arith)
+next-none (suc zero) h = absurd (omega arith)
+next-none (suc (suc n)) h = refl
+
+-- three in a row, read by the index of an axis
+pub at-index : (n : ℕ) (x y z : Float) → getD (x ∷ y ∷ z ∷ []) (byAxis n 0 1 2) nan ≡ byAxis n x y z
+unfolding byAxis
+at-index zero x y z = refl
+at-index (suc zero) x y z = refl
+at-index (suc (suc n)) x y z = refl
 
 pub plus-none : (n : ℕ) → n ≡ n + 0
 plus-none n = omega arith

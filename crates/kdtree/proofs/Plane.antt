@@ -1,7 +1,7 @@
 -- What the plane between the sides of a node tells: where the query lies on the one side of it, and not past the box of the other, the square of its
 -- distance to the plane is one of the terms of that box's distance, and a sum of squares rounds to no less. For any box and any floats. Assumes nothing.
 use mathlib.Core.Path.{_≡_, refl, sym, subst}
-use mathlib.Core.Bool.{Bool, true, false, not, cond, _&&_}
+use mathlib.Core.Bool.{Bool, true, false, not, cond, _&&_, _||_}
 use Prim.Native.Nat.{ℕ, zero, suc}
 use lib.Dec.{T}
 use lib.Ieee.{Float, binary32, add, lt, le, fits, ofBits}
@@ -121,6 +121,16 @@ passed b axis v false q d r e = go (lt v (coordOf q axis)) (lt (coordOf q axis) 
     go true false ex ey t = no _ (le→not-lt d (boxDistSq (withMax b axis v) q) (right-of d q b v axis (of-taken r) ey ex))
     go true true ex ey t = absurd (of-taken t)
     go false y ex ey t = absurd (of-taken t)
+
+-- as the code asks it, with no branch
+pub by-tests : (g : Bool) (x v l : Float) → (g && lt x v) || (not g && (lt v x && not (lt x l))) ≡ facing g x v l
+unfolding facing
+by-tests true x v l = or-false (lt x v)
+  where
+    or-false : (b : Bool) → b || false ≡ b
+    or-false true = refl
+    or-false false = refl
+by-tests false x v l = refl
 
 -- the same of the values that the code has
 pub facing-same : (g : Bool) (x x' v l l' : Float) (r : Bool) → x ≡ x' → l ≡ l' → r ≡ facing g x v l → r ≡ true → facing g x' v l' ≡ true

@@ -11,7 +11,7 @@ ghost use mathlib.Core.Path.{_≡_};
 ghost use mathlib.Core.Bool.{cond};
 ghost use Prim.Native.Nat.{ℕ, _+_, _-_, _*_, _<_, _≤_};
 ghost use lib.ListN.{length};
-ghost use Rattle.kdtree.specs.Geometry.{coordOf, nextAxis, Firm, outside, boxDistSq, boxAt, lower, upper, grown, minAt, maxAt, cornerOf, withMin, withMax, goesLeft};
+ghost use Rattle.kdtree.specs.Geometry.{byAxis, coordOf, nextAxis, Firm, outside, boxDistSq, boxAt, lower, upper, grown, minAt, maxAt, cornerOf, withMin, withMax, goesLeft};
 ghost use Rattle.kdtree.specs.Tree.{linkOf, subtree};
 ghost use Rattle.kdtree.specs.Search.{search, improve, visited, nearerBox, fartherBox, facing};
 ghost use Rattle.points.specs.Points.{pointAt, distSq};
@@ -35,11 +35,7 @@ pub fn coord(p: Point3, axis: u8) -> f32
 pub fn next_axis(axis: u8) -> u8
     ensures { λ r. ⌜ r ≡ nextAxis axis ⌝ }
 {
-    match axis {
-        0 => 1,
-        1 => 2,
-        _ => 0,
-    }
+    if axis < 2 { axis + 1 } else { 0 }
 }
 
 // One axis of a box's distance: added only where q lies outside of it. One square is made and added, that of +0 inside, so that nothing jumps: +0 added
@@ -86,11 +82,18 @@ fn choose(first: bool, a: f32, b: f32) -> f32
     if first { a } else { b }
 }
 
+// Where the coordinate of an axis stands among three.
+fn index_of(axis: u8) -> usize
+    ensures { λ r. ⌜ r ≡ byAxis axis 0 1 2 ⌝ }
+{
+    if axis < 2 { axis as usize } else { 2 }
+}
+
 // Which corner coordinate the plane of a node replaces, from 0 to 5: the least x, y, z, then the greatest.
 fn corner(axis: u8, left: bool) -> u32
     ensures { λ r. ⌜ r ≡ cornerOf axis left ⌝ }
 {
-    let low = if axis < 2 { axis as u32 } else { 2 };
+    let low = index_of(axis) as u32;
     if left { low + 3 } else { low }
 }
 
@@ -121,24 +124,21 @@ impl BoundingBox {
         }
     }
 
+    // Read by the index, where a `match` on the axis would jump.
     pub fn min_at(self, axis: u8) -> f32
         ensures { λ r. ⌜ r ≡ minAt self axis ⌝ }
     {
-        match axis {
-            0 => self.min_x,
-            1 => self.min_y,
-            _ => self.min_z,
-        }
+        let corners = [self.min_x, self.min_y, self.min_z];
+        let at = index_of(axis);
+        corners[at]
     }
 
     pub fn max_at(self, axis: u8) -> f32
         ensures { λ r. ⌜ r ≡ maxAt self axis ⌝ }
     {
-        match axis {
-            0 => self.max_x,
-            1 => self.max_y,
-            _ => self.max_z,
-        }
+        let corners = [self.max_x, self.max_y, self.max_z];
+        let at = index_of(axis);
+        corners[at]
     }
 
     // The box of a node's left or right side, v being the node's coordinate on the axis: one corner coordinate is replaced, the
@@ -314,8 +314,7 @@ fn better(n: u16, d: f32, best: Best) -> Best
 fn faces(left_first: bool, x: f32, v: f32, least: f32) -> bool
     ensures { λ r. ⌜ r ≡ facing «left_first» x v least ⌝ }
 {
-    let above = (v < x) & !(x < least);
-    if left_first { x < v } else { above }
+    (left_first & (x < v)) | (!left_first & ((v < x) & !(x < least)))
 }
 
 // The farther side's box is strictly nearer than the best. Mostly the plane between the sides alone says no, and no box is made: the

@@ -1,14 +1,9 @@
-use Rattle.kdtree.specs.Search.{facing}
+use Rattle.kdtree.proofs.Plane.{by-tests}
 use Rattle.kdtree.proofs.faces.Statement.{statement}
 use Rattle.kdtree.proofs.faces.Tie as tie
 
 returns : tie.Need-returns
-unfolding facing
-returns c = simp (c .if1 .taken)
-
-returns-2 : tie.Need-returns-2
-unfolding facing
-returns-2 c = simp (c .if1 .left)
+returns c = let a = c .args in by-tests (a .left-first) (a .x) (a .v) (a .least)
 
 pub faces-spec : {M : Type 1} → statement M
-faces-spec = tie.close (tie.spec returns returns-2)
+faces-spec = tie.close (tie.spec returns)

@@ -1,19 +1,35 @@
-use mathlib.Core.Path.{sym}
-use Rattle.kdtree.specs.Geometry.{byAxis, byAxis-else, minAt}
+use mathlib.Core.Path.{ap, _∙_}
+use mathlib.Core.List.{[], _∷_}
+use native.Mathlib.Omega.{arith}
+use Prim.Native.Nat.{ℕ}
+use lib.ListN.{getD}
+use lib.Ieee.{nan}
+use Rattle.kdtree.specs.Geometry.{minAt}
+use Rattle.kdtree.proofs.Corners.{low-most, at-index}
+use borrow.Author.Needs.{needs}
 use Rattle.kdtree.proofs.BoundingBox.min_at.Statement.{statement}
 use Rattle.kdtree.proofs.BoundingBox.min_at.Tie as tie
 
+index-of-requires : tie.Need-index-of-requires
+index-of-requires c κs = search needs
+
+mul-result : tie.Need-mul-result
+mul-result c =
+    let e = c .index-of .ensures in
+    let h = low-most (c .before .args .axis) in
+    omega arith
+
+array-read-result : tie.Need-array-read-result
+array-read-result c =
+    let e = c .index-of .ensures in
+    let h = low-most (c .before .args .axis) in
+    omega arith
+
 returns : tie.Need-returns
-unfolding minAt byAxis
-returns c = rw (c .match .keys1)
-
-returns-2 : tie.Need-returns-2
-unfolding minAt byAxis
-returns-2 c = rw (c .match .keys2)
-
-returns-3 : tie.Need-returns-3
-unfolding minAt byAxis
-returns-3 c = sym (byAxis-else _ _ _ _ (c .match .rest .0 .1) (c .match .rest .1))
+unfolding minAt
+returns c =
+    let b = c .before .args .self in
+    ap (λ (k : ℕ). getD (b .«min_x» ∷ b .«min_y» ∷ b .«min_z» ∷ []) k nan) (c .index-of .ensures) ∙ at-index (c .before .args .axis) (b .«min_x») (b .«min_y») (b .«min_z»)
 
 pub min-at-spec : {M : Type 1} → statement M
-min-at-spec = tie.close (tie.spec returns returns-2 returns-3)
+min-at-spec = tie.close (tie.spec index-of-requires mul-result array-read-result returns)
