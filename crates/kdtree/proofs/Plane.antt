@@ -135,3 +135,7 @@ by-tests false x v l = refl
 -- the same of the values that the code has
 pub facing-same : (g : Bool) (x x' v l l' : Float) (r : Bool) → x ≡ x' → l ≡ l' → r ≡ facing g x v l → r ≡ true → facing g x' v l' ≡ true
 facing-same g x x' v l l' r ex el er t = cc
+
+-- the box's own answer
+pub by-box : (b fb : BoundingBox) (q u : Point3) (r d : Float) → fb ≡ b → u ≡ q → r ≡ boxDistSq fb u → lt r d ≡ lt (boxDistSq b q) d
+by-box b fb q u r d eb eu er = cc

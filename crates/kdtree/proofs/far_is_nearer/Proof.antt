@@ -4,7 +4,7 @@ use denote.Ref.{now}
 use Rattle.points.specs.Points.{pointAt, gap}
 use Rattle.kdtree.proofs.Whole.{both}
 use borrow.Author.Needs.{needs}
-use Rattle.kdtree.proofs.Plane.{passed, facing-same}
+use Rattle.kdtree.proofs.Plane.{passed, facing-same, by-box}
 use Rattle.kdtree.proofs.far_is_nearer.Statement.{statement}
 use Rattle.kdtree.proofs.far_is_nearer.Tie as tie
 
@@ -36,7 +36,7 @@ dist-sq-requires : tie.Need-dist-sq-requires
 dist-sq-requires c κs = search needs
 
 returns-2 : tie.Need-returns-2
-returns-2 c = cc
+returns-2 c = by-box _ _ _ _ _ _ (c .before .before .farther-box .ensures) (c .before .query-point .ensures) (c .dist-sq .ensures)
 
 pub far-is-nearer-spec : {M : Type 1} → statement M
 far-is-nearer-spec =
