@@ -4,3 +4,4 @@ pub mod Whole
 pub mod OneProduct
 pub mod Corners
 pub mod Plane
+pub mod Sides

@@ -28,7 +28,7 @@ pub firm-zero : Firm zero32
 unfolding firm
 firm-zero = tt
 
-square-zero : mul binary32 zero32 zero32 ≡ zero32
+pub square-zero : mul binary32 zero32 zero32 ≡ zero32
 unfolding mul
 square-zero = refl
 

@@ -1,23 +1,26 @@
 -- What the plane between the sides of a node tells: where the query lies on the one side of it, and not past the box of the other, the square of its
 -- distance to the plane is one of the terms of that box's distance, and a sum of squares rounds to no less. For any box and any floats. Assumes nothing.
-use mathlib.Core.Path.{_≡_, refl, sym, subst}
+use mathlib.Core.Path.{_≡_, refl, sym, ap, _∙_, subst}
+use mathlib.Core.Logic.{_⊎_, inl, inr}
 use mathlib.Core.Bool.{Bool, true, false, not, cond, _&&_, _||_}
 use Prim.Native.Nat.{ℕ, zero, suc}
 use lib.Dec.{T}
-use lib.Ieee.{Float, binary32, add, lt, le, fits, ofBits}
+use lib.Ieee.{Float, binary32, add, sub, lt, le, fits, ofBits}
 use lib.Ieee.Fits.{add-fits, mul-fits}
 use lib.Ieee.Bits.{ofBits-fits}
 use Rattle.floats.specs.Floats.{zero32}
 use Rattle.floats.proofs.Preorder.{le-refl-f, le-trans-f, le→not-lt}
 use Rattle.floats.proofs.Sign.{nonneg}
 use Rattle.floats.proofs.Cross.{of-taken}
-use Rattle.floats.proofs.Ops.{nonneg-number, add-nonneg, add-grows, add-grows-r}
+use Rattle.floats.proofs.Ops.{nonneg-number, zero-le-nonneg, add-nonneg, add-grows, add-grows-r}
 use Rattle.points.specs.declared.Point3.{Point3}
 use Rattle.points.specs.Points.{gap}
 use Rattle.points.proofs.Gap.{gap-comm, gap-outside}
 use Rattle.kdtree.specs.declared.BoundingBox.{BoundingBox}
 use Rattle.kdtree.specs.Geometry.{byAxis, coordOf, outside, boxDistSq, minAt, withMin, withMax}
-use Rattle.kdtree.specs.Search.{fartherBox, facing}
+use Rattle.kdtree.specs.Search.{fartherBox}
+use Rattle.kdtree.proofs.Whole.{both}
+use Rattle.kdtree.proofs.Sides.{left-side, right-side}
 
 -- a sum of squares so far
 abbrev Sum : Float → Type 0
@@ -111,30 +114,28 @@ no : (b : Bool) → T (not b) → b ≡ false
 no false h = refl
 no true h = absurd h
 
-pub passed : (b : BoundingBox) (axis : ℕ) (v : Float) (g : Bool) (q : Point3) (d : Float) → le d (gap v (coordOf q axis)) ≡ true
-    → facing g (coordOf q axis) v (minAt b axis) ≡ true → lt (boxDistSq (fartherBox g b axis v) q) d ≡ false
-unfolding facing fartherBox
-passed b axis v true q d r e = no _ (le→not-lt d (boxDistSq (withMin b axis v) q) (left-of d q b v axis (of-taken r) e))
-passed b axis v false q d r e = go (lt v (coordOf q axis)) (lt (coordOf q axis) (minAt b axis)) refl refl e
-  where
-    go : (x y : Bool) → lt v (coordOf q axis) ≡ x → lt (coordOf q axis) (minAt b axis) ≡ y → x && not y ≡ true → lt (boxDistSq (withMax b axis v) q) d ≡ false
-    go true false ex ey t = no _ (le→not-lt d (boxDistSq (withMax b axis v) q) (right-of d q b v axis (of-taken r) ey ex))
-    go true true ex ey t = absurd (of-taken t)
-    go false y ex ey t = absurd (of-taken t)
+whole : (b : BoundingBox) (q : Point3) → T (le zero32 (boxDistSq b q))
+unfolding boxDistSq
+whole b q = zero-le-nonneg (boxDistSq b q) (grows _ (b .«min_z») (b .«max_z») (q .z) (y-sum zero32 q b zero32) .0 .0)
 
--- as the code asks it, with no branch
-pub by-tests : (g : Bool) (x v l : Float) → (g && lt x v) || (not g && (lt v x && not (lt x l))) ≡ facing g x v l
-unfolding facing
-by-tests true x v l = or-false (lt x v)
+passed : (b : BoundingBox) (axis : ℕ) (v : Float) (g : Bool) (q : Point3) (d : Float) → g ≡ le (sub binary32 (coordOf q axis) v) zero32 → T (le d (gap v (coordOf q axis)))
+    → g || not (lt (coordOf q axis) (minAt b axis)) ≡ true → T (le d (boxDistSq (fartherBox g b axis v) q))
+unfolding fartherBox
+passed b axis v true q d eg r e = go (left-side (coordOf q axis) v d (sym eg) r)
   where
-    or-false : (b : Bool) → b || false ≡ b
-    or-false true = refl
-    or-false false = refl
-by-tests false x v l = refl
+    go : (lt (coordOf q axis) v ≡ true) ⊎ T (le d zero32) → T (le d (boxDistSq (withMin b axis v) q))
+    go (inl h) = left-of d q b v axis r h
+    go (inr h) = le-trans-f d zero32 (boxDistSq (withMin b axis v) q) h (whole (withMin b axis v) q)
+passed b axis v false q d eg r e = right-of d q b v axis r (no _ (of-taken e)) (right-side (coordOf q axis) v d (sym eg) r)
 
 -- the same of the values that the code has
-pub facing-same : (g : Bool) (x x' v l l' : Float) (r : Bool) → x ≡ x' → l ≡ l' → r ≡ facing g x v l → r ≡ true → facing g x' v l' ≡ true
-facing-same g x x' v l l' r ex el er t = cc
+pub passed-by : (b : BoundingBox) (axis : ℕ) (v : Float) (g : Bool) (q : Point3) (d x l : Float) → x ≡ coordOf q axis → l ≡ minAt b axis
+    → g ≡ le (sub binary32 (coordOf q axis) v) zero32 → le d (gap v x) && (g || not (lt x l)) ≡ true → false ≡ lt (boxDistSq (fartherBox g b axis v) q) d
+passed-by b axis v g q d x l ex el eg t =
+    let f = both _ _ t in
+    let r : le d (gap v (coordOf q axis)) ≡ true = ap (λ (x : Float). le d (gap v x)) (sym ex) ∙ f .0 in
+    let e : g || not (lt (coordOf q axis) (minAt b axis)) ≡ true = cc in
+    sym (no _ (le→not-lt d (boxDistSq (fartherBox g b axis v) q) (passed b axis v g q d eg (of-taken r) e)))
 
 -- the box's own answer
 pub by-box : (b fb : BoundingBox) (q u : Point3) (r d : Float) → fb ≡ b → u ≡ q → r ≡ boxDistSq fb u → lt r d ≡ lt (boxDistSq b q) d

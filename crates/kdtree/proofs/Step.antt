@@ -1,14 +1,17 @@
 -- One step of the search and of the way down to a slot, in the terms of the code: each value that the code has, with the equation that it
 -- has for it, and what the definition then says. Assumes nothing.
 use mathlib.Core.Path.{_≡_, refl, sym, ap, _∙_}
-use mathlib.Core.Bool.{Bool, true, false, cond}
-use mathlib.Core.List.{List}
+use mathlib.Core.Bool.{Bool, true, false, cond, _&&_}
+use mathlib.Core.Logic.{⊎-elim}
+use mathlib.Core.List.{List, [], _∷_}
 use Prim.Native.Nat.{ℕ, zero, suc, _+_, _*_, _-_, _<_, _≤_}
 use native.Mathlib.Omega.{arith}
 use lib.ListN.{getD}
 use lib.Dec.{ltb, eqb}
 use lib.Ieee.{Float, nan, binary32, sub, lt, le}
-use borrow.Author.Tests.{le-ltb, lt-ltb, ltb-true}
+use types.Run.{OneOf}
+use denote.Enum.Declared.{tagOf}
+use borrow.Author.Tests.{le-ltb, lt-ltb, ltb-true, eqb-true, eq-eqb}
 use Rattle.floats.specs.Floats.{zero32}
 use Rattle.points.specs.declared.Point3.{Point3}
 use Rattle.kdtree.specs.declared.BoundingBox.{BoundingBox}
@@ -17,6 +20,7 @@ use Rattle.kdtree.specs.declared.Searched.{Searched}
 use Rattle.kdtree.specs.declared.Searched.the-variants.{Found, Stopped}
 use Rattle.kdtree.specs.declared.Link.{Link}
 use Rattle.kdtree.specs.declared.Link.the-variants.{Gone, To, Bad}
+use Rattle.kdtree.proofs.Link.{the-type}
 use Rattle.kdtree.specs.Geometry.{byAxis, coordOf, boxDistSq, nextAxis, leftFirst, goesLeft}
 use Rattle.kdtree.specs.Tree.{Tree, linkOf, sideOf, subtree}
 use Rattle.points.specs.Points.{pointAt, distSq}
@@ -54,6 +58,35 @@ to-is count o l m k (said-to h g) e =
 pub link-to : (count o l m : ℕ) → To m ≡ linkOf count o l → record { is : m ≡ l; above : o < m; below : m < count }
 link-to count o l m e = to-is count o l m (linkOf count o l) (said count o l) (sym e)
 
+-- only 65535 says that a side is absent
+gone-is : (count o l : ℕ) → linkOf count o l ≡ Gone → l ≡ 65535
+unfolding linkOf
+gone-is count o l e = go (eqb l 65535) refl (ltb o l) (ltb l count) e
+  where
+    go : (a : Bool) → eqb l 65535 ≡ a → (b c : Bool) → cond a Gone (cond b (cond c (To l) Bad) Bad) ≡ Gone → l ≡ 65535
+    go true ea b c z = eqb-true _ _ ea
+    go false ea true true z = let y : _≡_ {A = ℕ} 0 1 = cc in absurd (omega arith)
+    go false ea true false z = let y : _≡_ {A = ℕ} 0 1 = cc in absurd (omega arith)
+    go false ea false c z = let y : _≡_ {A = ℕ} 0 1 = cc in absurd (omega arith)
+
+-- a link that leads nowhere, which the code's `else` knows by the two tags
+abbrev pub Nowhere : Link → Type 0
+Nowhere lk = OneOf (0 ∷ 2 ∷ []) (tagOf the-type lk)
+
+-- of the two links of a node that has a side not both are absent, whichever is the nearer
+both-gone : (g : Bool) (l r : ℕ) → eqb l 65535 && eqb r 65535 ≡ false → cond g l r ≡ 65535 → cond g r l ≡ 65535 → ⊥
+both-gone g l r z e f = go g e f
+  where
+    one : l ≡ 65535 → r ≡ 65535 → ⊥
+    one x y =
+        let w : eqb l 65535 && eqb r 65535 ≡ true = simp (eq-eqb _ _ x, eq-eqb _ _ y) in
+        let v : _≡_ {A = ℕ} 0 1 = ap (λ (b : Bool). cond b 1 0) (sym z ∙ w) in
+        omega (arith, v)
+
+    go : (g : Bool) → cond g l r ≡ 65535 → cond g r l ≡ 65535 → ⊥
+    go true e f = one e f
+    go false e f = one f e
+
 -- ---- coordinates by the axis
 
 -- the coordinates of a point stand one after the other
@@ -78,6 +111,10 @@ pub first-left : (q p : Point3) (axis : ℕ) (x v : Float) (g : Bool) → x ≡ 
     → g ≡ le (sub binary32 x v) zero32 → g ≡ leftFirst q p axis
 unfolding leftFirst
 first-left q p axis x v g ex ev eg = cc
+
+-- the same of the coordinate of the query alone
+pub side-first : (x y v : Float) (g : Bool) → x ≡ y → g ≡ le (sub binary32 x v) zero32 → g ≡ le (sub binary32 y v) zero32
+side-first x y v g ex eg = cc
 
 -- ---- one step
 
@@ -156,8 +193,10 @@ module _ (left right : List ℕ) (xs : List Float) (count : ℕ) where
         Near w = (k : ℕ) → count - suc n ≤ k
             → w ≡ search count q (side k n (near (h .g) n)) (nearerBox (h .g) b axis (coordOf (pointAt xs n) axis)) (nextAxis axis) (visited s)
 
+        -- the farther side, t being the best after the node
         abbrev pub Far : Best → Searched → Type 0
-        Far t r = (k : ℕ) → count - suc n ≤ k → r ≡ rest k n (h .g) b axis t
+        Far t r = (k : ℕ) → count - suc n ≤ k
+            → r ≡ farther q (side k n (far (h .g) n)) (search count q (side k n (far (h .g) n))) (fartherBox (h .g) b axis (coordOf (pointAt xs n) axis)) (nextAxis axis) t
 
         pub near-gone : (l : ℕ) (lk : Link) → l ≡ near (h .g) n → lk ≡ linkOf count n l → lk ≡ Gone → Near (Found (visited s))
         unfolding search side sideOf
@@ -181,40 +220,67 @@ module _ (left right : List ℕ) (xs : List Float) (count : ℕ) where
             let w : m ≡ near (h .g) n = i .is in
             rw z (cc)
 
-        pub stopped : (w : Searched) → Near w → w ≡ Stopped → After n b axis s Stopped
+        stopped-near : Near Stopped → After n b axis s Stopped
         unfolding afterNear
-        stopped w nr e zero le = let i = h .below in absurd (omega arith)
-        stopped w nr e (suc k) le =
+        stopped-near nr zero le = let i = h .below in absurd (omega arith)
+        stopped-near nr (suc k) le =
             let i = h .below in
             let z : leftFirst q (pointAt xs n) axis ≡ h .g = cc in
-            sym (step k n b axis s (h .g) z (h .room) ∙ ap (λ (y : Searched). afterNear y (rest k n (h .g) b axis)) (sym (nr k (omega arith)) ∙ e))
+            sym (step k n b axis s (h .g) z (h .room) ∙ ap (λ (y : Searched). afterNear y (rest k n (h .g) b axis)) (sym (nr k (omega arith))))
 
-        pub went-on : (w : Searched) (t : Best) (r : Searched) → Near w → w ≡ Found t → Far t r → After n b axis s r
+        found-near : (t : Best) (r : Searched) → Near (Found t) → Far (improve n (distSq (pointAt xs n) q) t) r → After n b axis s r
         unfolding afterNear
-        went-on w t r nr e fr zero le = let i = h .below in absurd (omega arith)
-        went-on w t r nr e fr (suc k) le =
+        found-near t r nr fr zero le = let i = h .below in absurd (omega arith)
+        found-near t r nr fr (suc k) le =
             let i = h .below in
             let z : leftFirst q (pointAt xs n) axis ≡ h .g = cc in
-            fr k (omega arith)
-            ∙ sym (step k n b axis s (h .g) z (h .room) ∙ ap (λ (y : Searched). afterNear y (rest k n (h .g) b axis)) (sym (nr k (omega arith)) ∙ e))
+            fr k (omega arith) ∙ sym (step k n b axis s (h .g) z (h .room) ∙ ap (λ (y : Searched). afterNear y (rest k n (h .g) b axis)) (sym (nr k (omega arith))))
 
-        -- what the code knows past the farther side's link, t being the best after the nearer side
+        -- w is what the nearer side answered, d the node's distance, v what the node made of w
+        module _ (w : Searched) (d : Float) (v : Searched) (nr : Near w) (ed : d ≡ distSq (pointAt xs n) q) (ew : v ≡ afterNear w (λ t. Found (improve n d t))) where
+          pub stopped : v ≡ Stopped → After n b axis s Stopped
+          unfolding afterNear
+          stopped e = go w nr (sym ew ∙ e)
+            where
+              go : (w : Searched) → Near w → afterNear w (λ t. Found (improve n d t)) ≡ Stopped → After n b axis s Stopped
+              go (Found t) nr z = let y : _≡_ {A = ℕ} 0 1 = cc in absurd (omega arith)
+              go Stopped nr z = stopped-near nr
+
+          pub went-on : (t : Best) (r : Searched) → v ≡ Found t → Far t r → After n b axis s r
+          unfolding afterNear
+          went-on t r e fr = go w nr (sym ew ∙ e)
+            where
+              go : (w : Searched) → Near w → afterNear w (λ t. Found (improve n d t)) ≡ Found t → After n b axis s r
+              go (Found u) nr z =
+                  let y : improve n (distSq (pointAt xs n) q) u ≡ t = cc in
+                  found-near u r nr (λ k hk. fr k hk ∙ ap (λ (t : Best). farther q (side k n (far (h .g) n)) (search count q (side k n (far (h .g) n))) (fartherBox (h .g) b axis (coordOf (pointAt xs n) axis)) (nextAxis axis) t) (sym y))
+              go Stopped nr z = let y : _≡_ {A = ℕ} 0 1 = cc in absurd (omega arith)
+
+          -- no farther side: what the node made of the nearer side is the answer
+          pub one-sided : (l : ℕ) → l ≡ far (h .g) n → l ≡ 65535 → After n b axis s v
+          unfolding side linkOf sideOf farther
+          one-sided l el e = go v refl
+            where
+              gone-far : far (h .g) n ≡ 65535
+              gone-far = sym el ∙ e
+
+              go : (u : Searched) → v ≡ u → After n b axis s v
+              go (Found t) eu = went-on t v eu (λ k hk. eu ∙ simp (gone-far))
+              go Stopped eu = λ f hf. eu ∙ stopped eu f hf
+
+        -- what the code knows past the farther side's link, t being the best after the node
         pub record There (t : Best) : Type 0 where
-          pub d : Float
-          pub best : Best
           pub l : ℕ
           pub lk : Link
-          pub ed : d ≡ distSq (pointAt xs n) q
-          pub eb : best ≡ improve n d t
           pub el : l ≡ far (h .g) n
           pub ek : lk ≡ linkOf count n l
 
         module _ (t : Best) (k : There t) where
-          pub far-gone : k .lk ≡ Gone → Far t (Found (k .best))
+          pub far-gone : k .lk ≡ Gone → Far t (Found t)
           unfolding side sideOf farther
           far-gone e f hf =
               let z : linkOf count n (far (h .g) n) ≡ Gone = cc in
-              rw z (cc)
+              rw z
 
           pub far-bad : k .lk ≡ Bad → Far t Stopped
           unfolding side sideOf farther
@@ -223,29 +289,42 @@ module _ (left right : List ℕ) (xs : List Float) (count : ℕ) where
               rw z
 
           pub far-in : (m : ℕ) (fb : BoundingBox) (y : Bool) (r : Searched) → k .lk ≡ To m → fb ≡ fartherBox (h .g) b axis (h .v)
-              → y ≡ lt (boxDistSq (fartherBox (h .g) b axis (h .v)) q) (k .best .dist) → y ≡ true → After m fb (h .nx) (k .best) r → Far t r
+              → y ≡ lt (boxDistSq (fartherBox (h .g) b axis (h .v)) q) (t .dist) → y ≡ true → After m fb (h .nx) t r → Far t r
           unfolding side sideOf
           far-in m fb y r e ef ey less after f hf =
               let z : linkOf count n (far (h .g) n) ≡ To m = cc in
               let i = link-to count n (far (h .g) n) m (sym z) in
-              let a : r ≡ search count q (T f m) fb (h .nx) (k .best) = after f (omega arith) in
+              let a : r ≡ search count q (T f m) fb (h .nx) t = after f (omega arith) in
               let w : m ≡ far (h .g) n = i .is in
-              let lo : lt (boxDistSq fb q) (k .best .dist) ≡ true = cc in
-              let z2 : farther q (T f m) (search count q (T f m)) fb (h .nx) (k .best) ≡ search count q (T f m) fb (h .nx) (k .best)
-              = farther-node f m (search count q (T f m)) fb (h .nx) (k .best) (i .below) (omega arith) ∙ rw lo in
+              let lo : lt (boxDistSq fb q) (t .dist) ≡ true = cc in
+              let z2 : farther q (T f m) (search count q (T f m)) fb (h .nx) t ≡ search count q (T f m) fb (h .nx) t
+              = farther-node f m (search count q (T f m)) fb (h .nx) t (i .below) (omega arith) ∙ rw lo in
               rw z (cc)
 
-          pub far-out : (m : ℕ) (y : Bool) → k .lk ≡ To m → y ≡ lt (boxDistSq (fartherBox (h .g) b axis (h .v)) q) (k .best .dist) → y ≡ false → Far t (Found (k .best))
+          pub far-out : (m : ℕ) (y : Bool) → k .lk ≡ To m → y ≡ lt (boxDistSq (fartherBox (h .g) b axis (h .v)) q) (t .dist) → y ≡ false → Far t (Found t)
           unfolding side sideOf
           far-out m y e ey less f hf =
               let z : linkOf count n (far (h .g) n) ≡ To m = cc in
               let i = link-to count n (far (h .g) n) m (sym z) in
               let w : m ≡ far (h .g) n = i .is in
               let fb = fartherBox (h .g) b axis (h .v) in
-              let lo : lt (boxDistSq fb q) (k .best .dist) ≡ false = cc in
-              let z2 : farther q (T f m) (search count q (T f m)) fb (h .nx) (k .best) ≡ Found (k .best)
-              = farther-node f m (search count q (T f m)) fb (h .nx) (k .best) (i .below) (omega arith) ∙ rw lo in
+              let lo : lt (boxDistSq fb q) (t .dist) ≡ false = cc in
+              let z2 : farther q (T f m) (search count q (T f m)) fb (h .nx) t ≡ Found t
+              = farther-node f m (search count q (T f m)) fb (h .nx) t (i .below) (omega arith) ∙ rw lo in
               rw z (cc)
+
+        -- a node that has a side, and no farther one: a nearer link that leads nowhere is bad
+        pub nowhere : (l l' : ℕ) (lk : Link) → l ≡ near (h .g) n → l' ≡ far (h .g) n → l' ≡ 65535 → lk ≡ linkOf count n l → Nowhere lk
+            → eqb (getD left n 0) 65535 && eqb (getD right n 0) 65535 ≡ false → After n b axis s Stopped
+        nowhere l l' lk el el' e ek w z = go lk refl w
+          where
+            none : near (h .g) n ≡ 65535 → far (h .g) n ≡ 65535 → ⊥
+            none = both-gone (h .g) (getD left n 0) (getD right n 0) z
+
+            go : (x : Link) → lk ≡ x → Nowhere x → After n b axis s Stopped
+            go Gone ex w = absurd (none (sym el ∙ gone-is count n l (sym ek ∙ ex)) (sym el' ∙ e))
+            go Bad ex w = stopped-near (near-bad l lk el ek ex)
+            go (To j) ex w = absurd (⊎-elim (λ z. omega (arith, z)) (λ z. omega (arith, z)) w)
 
   -- ---- insertion: the slot of a new point p
   module _ (p : Point3) where

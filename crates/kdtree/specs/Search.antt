@@ -1,6 +1,6 @@
 -- The pruned search: nearer side, node, farther side if its box may hold something nearer.
 use Prim.Native.Nat.{ℕ, _+_}
-use mathlib.Core.Bool.{Bool, cond, not, _&&_}
+use mathlib.Core.Bool.{Bool, cond}
 use lib.Dec.{ltb}
 use lib.Ieee.{Float, lt}
 use Rattle.points.specs.declared.Point3.{Point3}
@@ -28,11 +28,6 @@ nearerBox left-first b axis v = cond left-first (withMax b axis v) (withMin b ax
 
 unfoldable pub fartherBox : Bool → BoundingBox → ℕ → Float → BoundingBox
 fartherBox left-first b axis v = cond left-first (withMin b axis v) (withMax b axis v)
-
--- the query's coordinate x is on the nearer side of the plane at v, and not below the box, whose least is given: what the code may ask before it makes the
--- farther box (proofs/Plane.antt)
-unfoldable pub facing : Bool → Float → Float → Float → Bool
-facing left-first x v least = cond left-first (lt x v) (lt v x && not (lt x least))
 
 abbrev pub Go : Type 0
 Go = BoundingBox → ℕ → Best → Searched

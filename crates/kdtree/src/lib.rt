@@ -13,7 +13,8 @@ ghost use Prim.Native.Nat.{ℕ, _+_, _-_, _*_, _<_, _≤_};
 ghost use lib.ListN.{length};
 ghost use Rattle.kdtree.specs.Geometry.{byAxis, coordOf, nextAxis, Firm, outside, boxDistSq, boxAt, lower, upper, grown, minAt, maxAt, cornerOf, withMin, withMax, goesLeft};
 ghost use Rattle.kdtree.specs.Tree.{linkOf, subtree};
-ghost use Rattle.kdtree.specs.Search.{search, improve, visited, nearerBox, fartherBox, facing};
+ghost use Rattle.kdtree.specs.Search.{search, improve, visited, afterNear, nearerBox, fartherBox};
+ghost use Rattle.kdtree.specs.declared.Searched.the-variants.{Found};
 ghost use Rattle.points.specs.Points.{pointAt, distSq};
 ghost use Rattle.floats.specs.Floats.{zero32};
 ghost use lib.Ieee.{binary32, sub, lt, le};
@@ -310,16 +311,9 @@ fn better(n: u16, d: f32, best: Best) -> Best
     }
 }
 
-// The query, x on the node's axis, is on the nearer side of the node's plane, and not below the box.
-fn faces(left_first: bool, x: f32, v: f32, least: f32) -> bool
-    ensures { λ r. ⌜ r ≡ facing «left_first» x v least ⌝ }
-{
-    (left_first & (x < v)) | (!left_first & ((v < x) & !(x < least)))
-}
-
-// The farther side's box is strictly nearer than the best. Mostly the plane between the sides alone says no, and no box is made: the
-// square of the query's distance to it is then one of the terms of the box's distance, and a sum of squares rounds to no less
-// (proofs/Plane.antt).
+// The farther side's box is strictly nearer than the best. Mostly the plane between the sides alone says no, and no box is made: where
+// the query is not below the box on this axis, or left is first, the square of its distance to the plane is one of the terms of the
+// box's distance, and a sum of squares rounds to no less (proofs/Plane.antt).
 fn far_is_nearer(
     rect: BoundingBox,
     axis: u8,
@@ -328,23 +322,34 @@ fn far_is_nearer(
     q: &[f32; 3],
     dist: f32,
 ) -> bool
-    requires { ⌜ axis < 3 ⌝ }
+    requires { ⌜ (axis < 3) × («go_left» ≡ le (sub binary32 (coordOf (pointAt (now q) 0) axis) v) zero32) ⌝ }
     ensures { λ r. ⌜ r ≡ lt (boxDistSq (fartherBox «go_left» rect axis v) (pointAt (now (q .entry)) 0)) dist ⌝ }
 {
     let x = query_coord(q, axis);
     let to_plane = v - x;
-    if (dist <= to_plane * to_plane) & faces(go_left, x, v, rect.min_at(axis)) {
+    if (dist <= to_plane * to_plane) & (go_left | !(x < rect.min_at(axis))) {
         return false;
     }
     let far = farther_box(rect, axis, v, go_left);
     far.dist_sq(query_point(q)) < dist
 }
 
+// The node after its nearer side, unless that stopped.
+fn then_node(s: Searched, n: u16, d: f32) -> Searched
+    ensures { λ r. ⌜ r ≡ afterNear s (λ t. Found (improve n d t)) ⌝ }
+{
+    match s {
+        Searched::Found(t) => Searched::Found(better(n, d, t)),
+        Searched::Stopped => Searched::Stopped,
+    }
+}
+
 // Nearer side, node, farther side.
 //
 // Lists stand behind one address each, so that a level hands on few words. Both links are read before the side is known, so that the
-// next node need not wait for a second read, and a node without sides is done at once. An answer of the farther side leaves by a way of its
-// own (`last`): one that is put together from its parts in memory and read at once as a whole is slow.
+// next node need not wait for a second read. A node without sides is done at once, and one without a farther side has a way of its own:
+// nothing but the node's distance is kept while its nearer side is searched. An answer of the farther side leaves by a way of its own
+// too (`last`): one that is put together from its parts in memory and read at once as a whole is slow.
 fn nearest_rec(
     xs: &&[f32],
     left: &&[u16],
@@ -373,7 +378,18 @@ fn nearest_rec(
     let v = place_coord(xs, node, axis);
     let go_left = left_first(query_coord(q, axis), v);
     let next = next_axis(axis);
-    let after = match link_of(m, node, either(go_left, l, r)) {
+    let nearer = either(go_left, l, r);
+    let farther = either(go_left, r, l);
+    if farther == 65535 {
+        let only_side = link_of(m, node, nearer);
+        let Link::To(n) = only_side else {
+            return Searched::Stopped;
+        };
+        let near = nearer_box(rect, axis, v, go_left);
+        let only = nearest_rec(xs, left, right, m, q, near, n, next, seen);
+        return then_node(only, node as u16, d);
+    }
+    let after = match link_of(m, node, nearer) {
         Link::Gone => Searched::Found(seen),
         Link::To(n) => {
             let near = nearer_box(rect, axis, v, go_left);
@@ -381,11 +397,11 @@ fn nearest_rec(
         }
         Link::Bad => Searched::Stopped,
     };
-    let Searched::Found(t) = after else {
+    let met = then_node(after, node as u16, d);
+    let Searched::Found(b) = met else {
         return Searched::Stopped;
     };
-    let b = better(node as u16, d, t);
-    match link_of(m, node, either(go_left, r, l)) {
+    match link_of(m, node, farther) {
         Link::Gone => return Searched::Found(b),
         Link::Bad => return Searched::Stopped,
         Link::To(n) => {

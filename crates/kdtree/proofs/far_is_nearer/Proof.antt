@@ -1,10 +1,7 @@
-use mathlib.Core.Path.{sym, ap, _∙_}
-use lib.Ieee.{Float, le}
 use denote.Ref.{now}
-use Rattle.points.specs.Points.{pointAt, gap}
-use Rattle.kdtree.proofs.Whole.{both}
+use Rattle.points.specs.Points.{pointAt}
+use Rattle.kdtree.proofs.Plane.{passed-by, by-box}
 use borrow.Author.Needs.{needs}
-use Rattle.kdtree.proofs.Plane.{passed, facing-same, by-box}
 use Rattle.kdtree.proofs.far_is_nearer.Statement.{statement}
 use Rattle.kdtree.proofs.far_is_nearer.Tie as tie
 
@@ -14,17 +11,13 @@ query-coord-requires c κs = search needs
 min-at-requires : tie.Need-min-at-requires
 min-at-requires c κs = search needs
 
-faces-requires : tie.Need-faces-requires
-faces-requires c κs = search needs
-
 returns : tie.Need-returns
 returns c =
     let o = c .before in
-    let a = o .before .before .before .args in
-    let t = both _ _ (c .if1 .taken) in
-    let ex = o .before .before .query-coord .ensures in
-    sym (passed (a .rect) (a .axis) (a .v) (a .go-left) (pointAt (now (a .q)) 0) (a .dist) (ap (λ (x : Float). le (a .dist) (gap (a .v) x)) (sym ex) ∙ t .0)
-    (facing-same _ _ _ _ _ _ _ ex (o .before .min-at .ensures) (o .faces .ensures) (t .1)))
+    let z = o .before .before in
+    let a = z .args in
+    passed-by (a .rect) (a .axis) (a .v) (a .go-left) (pointAt (now (a .q)) 0) (a .dist) (o .before .query-coord .result) (o .min-at .result) (o .before .query-coord .ensures)
+    (o .min-at .ensures) (z .pre .1) (c .if1 .taken)
 
 farther-box-requires : tie.Need-farther-box-requires
 farther-box-requires c κs = search needs
@@ -44,7 +37,6 @@ far-is-nearer-spec =
     (tie.spec
     query-coord-requires
     min-at-requires
-    faces-requires
     returns
     farther-box-requires
     query-point-requires
