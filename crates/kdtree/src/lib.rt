@@ -428,9 +428,11 @@ pub fn nearest_place(
     requires { ⌜ (root < count) × (3 * count ≤ length (now positions)) × (count ≤ length (now left)) × (count ≤ length (now right)) × (count ≤ 16384) ⌝ }
     ensures { λ r. ⌜ r ≡ foundFrom (now (positions .entry)) (now (left .entry)) (now (right .entry)) count root bounds q ⌝ }
 {
+    let dist = points::dist_sq(points::point_at(positions, root), q);
+    let place = root as u16;
     let start = Best {
-        dist: points::dist_sq(points::point_at(positions, root), q),
-        place: root as u16,
+        dist,
+        place,
         visits: 0,
     };
     let at = [q.x, q.y, q.z];

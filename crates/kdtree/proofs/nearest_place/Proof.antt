@@ -14,8 +14,8 @@ point-at-requires c κs = search needs
 dist-sq-requires : tie.Need-dist-sq-requires
 dist-sq-requires c κs = search needs
 
-cast-t16 : tie.Need-cast-t16
-cast-t16 c = search needs
+cast-place : tie.Need-cast-place
+cast-place c = search needs
 
 nearest-rec-requires : tie.Need-nearest-rec-requires
 nearest-rec-requires c κs = search needs
@@ -32,4 +32,4 @@ returns c =
 
 pub nearest-place-spec : {M : Type 1} → statement M
 nearest-place-spec =
-    tie.close (tie.spec point-at-requires dist-sq-requires cast-t16 nearest-rec-requires returns)
+    tie.close (tie.spec point-at-requires dist-sq-requires cast-place nearest-rec-requires returns)
