@@ -50,12 +50,12 @@ extern "C" {
 
 /*
  * The stack that a call wants at most, in bytes: SOFA_STACK, and SOFA_STACK_LEVEL more for each level of the tree that it searches,
- * SOFA_STACK_LOAD for each level of a load's tree, or SOFA_STACK_INSERT for each level that a bare insert goes down. 5.3 MiB are enough for
+ * SOFA_STACK_LOAD for each level of a load's tree, or SOFA_STACK_INSERT for each level that a bare insert goes down. 5.6 MiB are enough for
  * any call.
  */
 #define SOFA_STACK 2048u
-#define SOFA_STACK_LEVEL 336u
-#define SOFA_STACK_LOAD 336u
+#define SOFA_STACK_LEVEL 352u
+#define SOFA_STACK_LOAD 352u
 #define SOFA_STACK_INSERT 112u
 
 typedef struct { uint32_t reason; size_t place; } sofa_refusal;
@@ -158,7 +158,7 @@ sofa_inserted sofa_tree_insert(
  * lists    positions: 3count; left, right, numbers: count each
  * refused  3: a list is shorter than that, or count is above 16384; 9: a bad link is met, or visit count + 1 begins. The number is
  *          SOFA_ABSENT.
- * stack    384, and 336 a level
+ * stack    384, and 352 a level
  */
 sofa_found sofa_tree_nearest(
     size_t count, sofa_box box,
@@ -181,7 +181,7 @@ sofa_found sofa_tree_nearest(
  *          radius +, -
  *          Each of these entries is written, and nothing past them.
  * refused  1, 2, 3, 4, 5 (the angle step first), 6. All lists stay as they were, the lookup is all +0.
- * stack    1792, and 336 a level
+ * stack    1792, and 352 a level
  */
 sofa_loaded sofa_load(
     uint32_t kind, sofa_sizes sizes,
@@ -198,7 +198,7 @@ sofa_loaded sofa_load(
  *
  * lists    cartesian: 3m; left, right: m each
  * refused  2, 3, 7, and 9 on the way. The number is SOFA_ABSENT.
- * stack    640, and 336 a level
+ * stack    640, and 352 a level
  */
 sofa_found sofa_find(
     sofa_sizes sizes, sofa_lookup lookup,
@@ -212,7 +212,7 @@ sofa_found sofa_find(
  *
  * lists    as sofa_find; coordinates: three values, the point drawn to the measured radii is written there
  * refused  as sofa_find; the coordinates stay as they were, for 9 too
- * stack    768, and 336 a level
+ * stack    768, and 352 a level
  */
 sofa_found sofa_find_mut(
     sofa_sizes sizes, sofa_lookup lookup,
@@ -230,7 +230,7 @@ sofa_found sofa_find_mut(
  *          receiver, else r or more are the first two for all, else there is no delay; the answer's are in seconds
  *          out_left, out_right: any length; all of each is written, the first n samples, as far as there is room, and +0 in the rest
  * refused  2, 3, 6, 7, and 9 on the way. Every sample of both outputs is +0, those beyond n too.
- * stack    1280, and 336 a level
+ * stack    1280, and 352 a level
  */
 sofa_filtered sofa_filter(
     sofa_sizes sizes, sofa_lookup lookup,
@@ -249,7 +249,7 @@ sofa_filtered sofa_filter(
  *
  * lists    cartesian: 3m; left, right: m each; responses: m*r*n; delays and outputs as in sofa_filter
  * refused  2, 3, 6, 7, and 9 on the way. Every sample of both outputs is +0, those beyond n too.
- * stack    768, and 336 a level
+ * stack    768, and 352 a level
  */
 sofa_filtered sofa_filter_nointerp(
     sofa_sizes sizes, sofa_lookup lookup,

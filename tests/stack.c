@@ -131,7 +131,11 @@ typedef struct {
 static void *run(void *given) {
     task *t = given;
     volatile uint64_t *word, *top;
+#ifdef __aarch64__
+    __asm__ volatile("mov %0, sp" : "=r"(top));
+#else
     __asm__ volatile("mov %%rsp, %0" : "=r"(top));
+#endif
     for (word = t->stack; word < top; word++)
         *word = PAINT;
     t->call();
