@@ -2,9 +2,11 @@
 //! `sofar`, either with its angle functions redirected to the port's or unchanged.
 //!
 //! all SEED SMALL LARGE [list]: prints the first twenty differences, with `list` each of them, and one line of counts.
+//! all SEED QUERIES 0 real FILE: the same over the measured set of FILE (oracle/real.c), by the steps 0.5 and 0.01.
 //! all SEED SETS 0 sample: writes the records that crates/replay asks the port again (sample.rs).
 
 mod port;
+mod real;
 mod refusals;
 mod sample;
 mod sets;
@@ -232,7 +234,7 @@ fn signalling(v: &f32) -> bool {
     v.is_nan() && v.to_bits() & 0x0040_0000 == 0
 }
 
-fn compare(set: &Set, queries: usize, r: &mut Random, t: &mut Tally) {
+fn compare(set: &Set, queries: usize, numbers: usize, r: &mut Random, t: &mut Tally) {
     t.sets += 1;
     let mut h = host(set, r);
     refusals::at_load(&h, r, t);
@@ -246,8 +248,8 @@ fn compare(set: &Set, queries: usize, r: &mut Random, t: &mut Tally) {
         t.name = format!("{name}, query {i} ({:08x},{:08x},{:08x})", q[0].to_bits(), q[1].to_bits(), q[2].to_bits());
         compare_query(set, &source, &h, q, r, t);
     }
-    for i in 0..set.m.min(8) {
-        let number = if set.m <= 8 { i } else { r.below(set.m) };
+    for i in 0..set.m.min(numbers) {
+        let number = if set.m <= numbers { i } else { r.below(set.m) };
         t.name = format!("{name}, number {number}");
         compare_number(set, &source, &h, number, r, t);
     }
@@ -269,8 +271,19 @@ fn run(seed: u64, small: u64, large: u64, every: bool) -> Tally {
         let mut r = sets::random_of(seed, number);
         let (size, set) = if number < small { ("small", sets::small(number, &mut r)) } else { ("large", sets::large(number - small, &mut r)) };
         t.name = format!("set {number} ({size}, {}, m {})", set.family, set.m);
-        compare(&set, if number < small { 12 } else { 60 }, &mut r, &mut t);
+        compare(&set, if number < small { 12 } else { 60 }, 8, &mut r, &mut t);
     }
+    t
+}
+
+/// Every list of the measured set, every number, and as many queries as are asked for.
+fn run_real(seed: u64, queries: usize, file: &str) -> Tally {
+    let mut t = Tally::new(false);
+    let mut r = sets::random_of(seed, 0);
+    let real::Real { m, r: receivers, n, kind, positions, responses, delays, rate } = real::read(file);
+    let set = Set { family: "measured", kind, m, r: receivers, n, positions, responses, delays, angle_step: 0.5, radius_step: 0.01, rate };
+    t.name = format!("measured set, m {m}");
+    compare(&set, queries, m, &mut r, &mut t);
     t
 }
 
@@ -282,7 +295,11 @@ fn main() {
     if args.get(4).is_some_and(|a| a == "sample") {
         return sample::write(seed, small);
     }
-    let work = move || run(seed, small, large, every);
+    let real = args.get(4).is_some_and(|a| a == "real").then(|| args[5].clone());
+    let work = move || match real {
+        Some(file) => run_real(seed, small as usize, &file),
+        None => run(seed, small, large, every),
+    };
     let t = std::thread::Builder::new().stack_size(STACK).spawn(work).unwrap().join().unwrap();
     let [exact, blended @ ..] = t.points;
     println!("oracle: filters exact {exact}, blended over 1, 2, 3, 4 points {blended:?}; {} zeros of open sign; {} refusals as document 01 has them", t.open, t.refusals);
