@@ -1,7 +1,12 @@
 /*
- * sofa.h: what a C host can call. Each call answers for every input. A host sees to three things only: each pointer leads to as many
- * elements as the count beside it says (beside a count of 0 it is not used), a list that is written does not overlap another one, and
- * the thread has the stack that the call wants.
+ * sofa.h: what a C host can call. Each call answers for every input. A host sees to four things only:
+ *
+ *   lists        each pointer leads to as many elements as the count beside it says (beside a count of 0 it is not used), and stands where
+ *                its type may stand: at a multiple of 4 bytes for float, of 2 for uint16_t. No wider alignment is asked for.
+ *   overlap      a list that is written does not overlap another one.
+ *   stack        the thread has the stack that the call wants.
+ *   arithmetic   the thread's floating-point environment is the one that C starts a program with: rounding to nearest, subnormal numbers
+ *                kept, nothing trapped. Audio threads often have another: sofa_enter and sofa_leave, below, see to it.
  *
  * A list is lent as a pointer and a count of elements. Nothing is allocated, nothing is kept between calls: a set is the lists that
  * the host holds and a sofa_lookup by value. Calls share no state: several threads may go by the same lists as long as none writes them.
@@ -93,6 +98,59 @@ typedef struct {
     size_t place;
     uint16_t phi_plus, phi_minus, theta_plus, theta_minus, radius_plus, radius_minus;
 } sofa_neighbors;
+
+/* ---- the floating-point environment */
+
+/*
+ * What this header says is said of IEEE 754's arithmetic as C starts it. Many audio hosts set flush-to-zero for the threads on which they
+ * call (FTZ and DAZ in MXCSR, FZ in Arm's FPCR), and some code leaves another rounding direction behind: then none of it holds. With
+ * flush-to-zero a refusal is lost (a radius of -1e-40 is loaded, where it should be refused 4), another measurement is found (where two
+ * are less than 1e-19 apart), a root is wrong (that of 1e-40 comes out as 1e-40). With another rounding direction the last bits of angles,
+ * distances and blends differ, and so may the measurement. Where exceptions are not masked a call may trap.
+ *
+ *     sofa_environment host = sofa_enter();
+ *     ..                                      any number of calls
+ *     sofa_leave(host);
+ *
+ * sofa_enter puts the default environment in force for this thread and hands back the host's, sofa_leave puts that back in force: rounding,
+ * flushing, masks and the flags that were raised before; what the calls between them raised is forgotten. Leave the host's own
+ * arithmetic outside: a compiler may move it across either of the two. A thread that never changed its environment needs neither. The two are
+ * for gcc and clang on x86-64 and on 64-bit Arm; elsewhere they are not declared, so that a host that asks for them is not built.
+ */
+typedef struct { uint32_t control, status; } sofa_environment;
+
+#if defined(__GNUC__) && defined(__x86_64__)
+
+static inline sofa_environment sofa_enter(void) {
+    sofa_environment host = {0, 0};
+    uint32_t start = 0x1f80; /* MXCSR: all six exceptions masked and none raised, to nearest, no FTZ, no DAZ */
+    __asm__ __volatile__("stmxcsr %0" : "=m"(host.control) : : "memory");
+    __asm__ __volatile__("ldmxcsr %0" : : "m"(start) : "memory");
+    return host;
+}
+
+static inline void sofa_leave(sofa_environment host) {
+    __asm__ __volatile__("ldmxcsr %0" : : "m"(host.control) : "memory");
+}
+
+#elif defined(__GNUC__) && defined(__aarch64__)
+
+static inline sofa_environment sofa_enter(void) {
+    sofa_environment host;
+    uint64_t control, status, start = 0; /* FPCR: to nearest, nothing flushed, nothing trapped; FPSR: nothing raised */
+    __asm__ __volatile__("mrs %0, fpcr\n\tmrs %1, fpsr" : "=r"(control), "=r"(status) : : "memory");
+    __asm__ __volatile__("msr fpcr, %0\n\tmsr fpsr, %0" : : "r"(start) : "memory");
+    host.control = (uint32_t)control;
+    host.status = (uint32_t)status;
+    return host;
+}
+
+static inline void sofa_leave(sofa_environment host) {
+    uint64_t control = host.control, status = host.status;
+    __asm__ __volatile__("msr fpcr, %0\n\tmsr fpsr, %1" : : "r"(control), "r"(status) : "memory");
+}
+
+#endif
 
 /* ---- numbers */
 
