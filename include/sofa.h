@@ -1,10 +1,23 @@
 /*
- * sofa.h: what a C host can call. Each call answers for every input. A host sees to three things only: each pointer leads to as many
- * elements as the count beside it says (beside a count of 0 it is not used), a list that is written does not overlap another one, and
- * the thread has the stack that the call wants.
+ * sofa.h: what a C host can call. Each call answers for every input. A host sees to four things only:
+ *
+ *   lists        each pointer leads to as many elements as the count beside it says (beside a count of 0 it is not used), and stands where
+ *                its type may stand: at a multiple of 4 bytes for float, of 2 for uint16_t. No wider alignment is asked for.
+ *   overlap      a list that is written does not overlap another one.
+ *   stack        the thread has the stack that the call wants.
+ *   arithmetic   the thread's floating-point environment is the one that C starts a program with: rounding to nearest, subnormal numbers
+ *                kept, nothing trapped. Audio threads often have another: sofa_enter and sofa_leave, below, see to it.
  *
  * A list is lent as a pointer and a count of elements. Nothing is allocated, nothing is kept between calls: a set is the lists that
  * the host holds and a sofa_lookup by value. Calls share no state: several threads may go by the same lists as long as none writes them.
+ *
+ * Coordinates: x is ahead, y to the left, z up. Azimuth is in degrees, 0 ahead and 90 to the left; a conversion answers it from 0 on and
+ * below 360, and takes any turn up to 720. Elevation is in degrees, 0 level, 90 up, -90 down. Angles of sofa_sine, sofa_cosine and
+ * sofa_arctangent alone are in radians. Lengths are in metres, as in SOFA files: radius, coordinates, the radius step.
+ *
+ * A measurement's number is its place in the set, from 0. Answers and lists hold it in 16 bits, m being at most 16384; SOFA_ABSENT stands
+ * for none. Arguments take it as a size_t, as they take every count: nothing is cut off before it is looked at, and what is no number of
+ * a measurement, SOFA_ABSENT too, is refused 8. An answer's number can be handed on as it is.
  *
  * An answer's `reason` is 0, or the number of the refusal that was met first:
  *
@@ -31,8 +44,19 @@
  *   refused  the numbers, in the order in which they are checked, and what the lists then hold.
  *   stack    in bytes, as measured for the archive (tests/stack.c) and rounded up, the arguments that are handed over on it included. A
  *            level is one step down the tree: a set that comes in no order has about 35 for 16384 measurements, one that is sorted along
- *            all three axes as many as measurements. A host whose symbols are bound late may spend 1 KiB and more in the loader on its
- *            first conversion or load, at the first call of fmodf: link with -z now, or count it.
+ *            all three axes as many as measurements. Where a host's symbols are bound late, the loader comes on top of it at the first
+ *            call of fmodf (in a conversion or a load) and of memset (in a filter): 3.1 KiB were measured with glibc 2.36 on a processor
+ *            with AVX-512, whose registers it puts there. Link with -z now, or count it, or make one such call on a roomier stack first.
+ *
+ * The archive, libsofa.a, is for x86-64 Linux (System V calls, any x86-64 processor) and can stand in a shared library. It needs the C
+ * library's memset and fmodf, so link -lm behind it, and nothing else. A shared library that should not hand these names on, a plug-in
+ * for one, of which a process may hold two, is linked with -Wl,--exclude-libs,ALL (GNU ld and lld).
+ *
+ * Time (docs/SPEED.md): a find takes 0.5 to 2 microseconds, a filter of 512 taps 1 to 4. A load with steps 0.5 and 0.01 takes 6 ms for
+ * 1000 measurements at random on a sphere, 90 ms for 16384, and up to five times as long on a grid. What makes it longer is order: a set
+ * sorted along all three axes is one chain, 0.7 s for 4096 and four times as much for each doubling. Worst is one ring in order of azimuth,
+ * where most points lie as near to many measurements: 0.7 s for 1024 and 3.4 s for 2048, a tenth of it for the same ring in no order.
+ * Steps of 0.1 and 0.001 take three times as long as these. No load belongs on an audio thread.
  */
 #ifndef SOFA_H
 #define SOFA_H
@@ -43,6 +67,18 @@
 #ifdef __cplusplus
 extern "C" {
 #endif
+
+/*
+ * The version that this header is of. Within one first part of at least 1, and within one second part below that, what stands here stays
+ * and more may come. sofa_version says the same of the archive: where the two differ, one of them is another version's.
+ */
+#define SOFA_VERSION_MAJOR 0
+#define SOFA_VERSION_MINOR 1
+#define SOFA_VERSION_PATCH 0
+#define SOFA_VERSION (SOFA_VERSION_MAJOR * 65536u + SOFA_VERSION_MINOR * 256u + SOFA_VERSION_PATCH)
+
+/* The lists' counts are of 64 bits in the archive: on a machine where they are not, this does not compile. */
+typedef char sofa_is_for_64_bits[sizeof(size_t) == 8 ? 1 : -1];
 
 #define SOFA_ABSENT 65535u
 #define SOFA_CARTESIAN 0u
@@ -66,7 +102,8 @@ typedef struct { size_t m, c, r, n; } sofa_sizes;
 
 typedef struct { float min_x, min_y, min_z, max_x, max_y, max_z; } sofa_box;
 
-/* what a load hands back, to be given to each query: the box of the tree and the six bounds */
+/* what a load hands back, to be given to each query: the box of the tree and the six bounds: azimuth (phi) and elevation (theta) in
+   degrees, radius */
 typedef struct {
     sofa_box box;
     float phi_min, phi_max, theta_min, theta_max, radius_min, radius_max;
@@ -88,13 +125,75 @@ typedef struct {
 /* a part of the host's own response list: `count` taps from `start` on */
 typedef struct { uint32_t reason; size_t place; size_t start, count; } sofa_part;
 
+/* the numbers of the neighbours, SOFA_ABSENT for none: azimuth +, -, elevation +, -, radius +, - */
 typedef struct {
     uint32_t reason;
     size_t place;
     uint16_t phi_plus, phi_minus, theta_plus, theta_minus, radius_plus, radius_minus;
 } sofa_neighbors;
 
+/* ---- the floating-point environment */
+
+/*
+ * What this header says is said of IEEE 754's arithmetic as C starts it. Many audio hosts set flush-to-zero for the threads on which they
+ * call (FTZ and DAZ in MXCSR, FZ in Arm's FPCR), and some code leaves another rounding direction behind: then none of it holds. With
+ * flush-to-zero a refusal is lost (a radius of -1e-40 is loaded, where it should be refused 4), another measurement is found (where two
+ * are less than 1e-19 apart), a root is wrong (that of 1e-40 comes out as 1e-40). With another rounding direction the last bits of angles,
+ * distances and blends differ, and so may the measurement. Where exceptions are not masked a call may trap.
+ *
+ *     sofa_environment host = sofa_enter();
+ *     ..                                      any number of calls
+ *     sofa_leave(host);
+ *
+ * sofa_enter puts the default environment in force for this thread and hands back the host's, sofa_leave puts that back in force: rounding,
+ * flushing, masks and the flags that were raised before; what the calls between them raised is forgotten. Leave the host's own arithmetic
+ * outside: a compiler may move it across either of the two. Both together take some 25 ns. A thread whose environment nobody changed needs
+ * neither. They are for gcc and clang on x86-64 and on 64-bit Arm; elsewhere they are not declared, so that a host that asks for them is
+ * not built.
+ */
+typedef struct { uint32_t control, status; } sofa_environment;
+
+#if defined(__GNUC__) && defined(__x86_64__)
+
+static inline sofa_environment sofa_enter(void) {
+    sofa_environment host = {0, 0};
+    uint32_t start = 0x1f80; /* MXCSR: all six exceptions masked and none raised, to nearest, no FTZ, no DAZ */
+    __asm__ __volatile__("stmxcsr %0" : "=m"(host.control) : : "memory");
+    __asm__ __volatile__("ldmxcsr %0" : : "m"(start) : "memory");
+    return host;
+}
+
+static inline void sofa_leave(sofa_environment host) {
+    __asm__ __volatile__("ldmxcsr %0" : : "m"(host.control) : "memory");
+}
+
+#elif defined(__GNUC__) && defined(__aarch64__)
+
+static inline sofa_environment sofa_enter(void) {
+    sofa_environment host;
+    uint64_t control, status, start = 0; /* FPCR: to nearest, nothing flushed, nothing trapped; FPSR: nothing raised */
+    __asm__ __volatile__("mrs %0, fpcr\n\tmrs %1, fpsr" : "=r"(control), "=r"(status) : : "memory");
+    __asm__ __volatile__("msr fpcr, %0\n\tmsr fpsr, %0" : : "r"(start) : "memory");
+    host.control = (uint32_t)control;
+    host.status = (uint32_t)status;
+    return host;
+}
+
+static inline void sofa_leave(sofa_environment host) {
+    uint64_t control = host.control, status = host.status;
+    __asm__ __volatile__("msr fpcr, %0\n\tmsr fpsr, %1" : : "r"(control), "r"(status) : "memory");
+}
+
+#endif
+
 /* ---- numbers */
+
+/*
+ * The archive's SOFA_VERSION.
+ * refused  never
+ * stack    128
+ */
+uint32_t sofa_version(void);
 
 /*
  * The correctly rounded square root, of every float; NaN below -0.
@@ -133,8 +232,8 @@ sofa_refusal sofa_to_cartesian(float *values, size_t count);
 
 /*
  * A tree of `count` places over four lists: positions (3 values a place), left, right (links, SOFA_ABSENT for none) and numbers (the
- * number kept with each place). Any float may stand in it. Start with count 0 and any box; after each insert that is not refused count
- * is one more and the box is the answer's.
+ * number kept with each place, any of 16 bits). Any float may stand in it. Start with count 0 and any box; after each insert that is not
+ * refused count is one more and the box is the answer's.
  *
  * lists    positions: 3(count + 1), the point is written at 3count, 3count + 1, 3count + 2
  *          left, right: count + 1 each, SOFA_ABSENT is written at count; for count above 0 also one absent link, to count
@@ -153,7 +252,8 @@ sofa_inserted sofa_tree_insert(
     float x, float y, float z, uint16_t number);
 
 /*
- * The number of the nearest place; SOFA_ABSENT with reason 0 for an empty tree. A NaN coordinate gives the root's number.
+ * The number of the nearest place; SOFA_ABSENT with reason 0 for an empty tree. A place may keep 65535 too, which reads the same: a host
+ * that keeps it tells the two apart by its own count, which is 0 for the empty tree alone. A NaN coordinate gives the root's number.
  *
  * lists    positions: 3count; left, right, numbers: count each
  * refused  3: a list is shorter than that, or count is above 16384; 9: a bad link is met, or visit count + 1 begins. The number is
@@ -171,8 +271,14 @@ sofa_found sofa_tree_nearest(
 /* ---- a set */
 
 /*
- * Makes a set ready. kind is SOFA_CARTESIAN or SOFA_SPHERICAL. Responses are taps within receivers within measurements. Keep the answer's
- * lookup and the four lists that are written: the queries go by them.
+ * Makes a set ready. kind is SOFA_CARTESIAN or SOFA_SPHERICAL. Responses are taps within receivers within measurements, the left ear's
+ * receiver first. Keep the answer's lookup and the four lists that are written: the queries go by them.
+ *
+ * The steps are how far apart the points are at which a load looks for neighbours, which sofa_filter blends with. From each measurement it
+ * goes in six directions: in azimuth and elevation by angle_step degrees at a time until 45 are reached, in radius by radius_step metres
+ * at a time, at most 100 times and not beyond the measured radii. The first point to which another measurement is nearest names the
+ * neighbour. A step that is larger than the distance between measurements may pass one over; a smaller one takes longer. Begin with 0.5f
+ * and 0.01f, as the source library does. The rate is that of the responses and delays, in samples a second.
  *
  * lists    positions: exactly 3m; responses: m*r*n, not read
  *          cartesian: 3m, the positions are written to the first 3m, copied, or converted from spherical

@@ -100,6 +100,10 @@ static void to_cartesian(void) {
     reason |= sofa_to_cartesian(values, 6).reason;
 }
 
+static void version(void) {
+    reason |= sofa_version() != SOFA_VERSION;
+}
+
 static void root(void) {
     volatile float x = sofa_root(2);
     (void)x;
@@ -217,6 +221,7 @@ int main(void) {
     measure_flat("max_delay", longest, 0);
     measure_flat("to_spherical", to_spherical, 0);
     measure_flat("to_cartesian", to_cartesian, 0);
+    measure_flat("version", version, 0);
     measure_flat("root", root, 0);
     measure_flat("sine", sine, 0);
     measure_flat("cosine", cosine, 0);

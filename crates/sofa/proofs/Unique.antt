@@ -5,6 +5,7 @@ use mathlib.Core.Path.{_≡_, sym, ap, _∙_}
 use Rattle.sofa.specs.Convert.{Turned}
 use Rattle.sofa.specs.Tree.{Left}
 use Rattle.sofa.specs.Set.{LoadedSet, MovedTo, Filtered}
+use Rattle.sofa.proofs.sofa_version.Reads as version
 use Rattle.sofa.proofs.sofa_root.Reads as root
 use Rattle.sofa.proofs.sofa_sine.Reads as sine
 use Rattle.sofa.proofs.sofa_cosine.Reads as cosine
@@ -29,6 +30,9 @@ only : {A : Type 0} {a b d : A} → a ≡ d → b ≡ d → a ≡ b
 only p q = p ∙ sym q
 
 -- ---- an answer
+
+pub «sofa_version» : (κs : _) (a : _) (r r' : _) (e e' : _) → version.Post κs a r e → version.Post κs a r' e' → r ≡ r'
+«sofa_version» κs a r r' e e' p q = only p q
 
 pub «sofa_root» : (κs : _) (a : _) (r r' : _) (e e' : _) → root.Post κs a r e → root.Post κs a r' e' → r ≡ r'
 «sofa_root» κs a r r' e e' p q = only p q

@@ -1,4 +1,5 @@
--- What crosses the C border: document 01's number and values for each case of an answer. Definitions only.
+-- What crosses the C border: document 01's number and values for each case of an answer, and the version. Definitions only.
+use Prim.Native.Nat.{ℕ, _+_, _*_}
 use mathlib.Core.Bool.{false}
 use lib.IntN.{pos}
 use lib.Ieee.{fin}
@@ -10,3 +11,7 @@ use Rattle.sofa.specs.declared.SofaValue.{SofaValue}
 abbrev pub valueOf : Answer → SofaValue
 valueOf (Value v) = record { reason = 0; place = 0; value = v }
 valueOf (Refused n p) = record { reason = n; place = p; value = fin false 0 (pos 0) }
+
+-- version 0.1.0: 65536 times the first part, 256 times the second, and the third
+abbrev pub versionNumber : ℕ
+versionNumber = 0 * 65536 + 1 * 256 + 0

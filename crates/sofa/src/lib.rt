@@ -2,19 +2,26 @@
 //
 // An enum does not cross the border, so each answer is a struct of numbers. Reason 0 means that
 // nothing was refused; any other is document 01's number, with its place. The definitions in specs/
-// say what stands for each case: Border for the angles, Tree for the bare tree (tree.rt), Convert for
+// say what stands for each case: Border for the angles and the version, Tree for the bare tree (tree.rt), Convert for
 // the conversions (convert.rt), Set for a set (set.rt).
 //
 // proofs/Unique.antt: no contract here leaves a choice, proved of each function's own contract.
 ghost use mathlib.Core.Path.{_≡_};
 ghost use Rattle.root.specs.Root.{rootOf};
 ghost use Rattle.angles.specs.Says.{sineSays, cosineSays, arctanSays};
-ghost use Rattle.sofa.specs.Border.{valueOf};
+ghost use Rattle.sofa.specs.Border.{valueOf, versionNumber};
 use angles::Answer;
 
 mod convert;
 mod set;
 mod tree;
+
+#[no_mangle]
+pub extern "C" fn sofa_version() -> u32
+    ensures { λ r. ⌜ r ≡ versionNumber ⌝ }
+{
+    0 * 65536 + 1 * 256 + 0
+}
 
 #[repr(C)]
 pub struct SofaValue {
