@@ -1,3 +1,4 @@
+// SPDX-License-Identifier: MIT OR Apache-2.0
 //! What each lent list holds after a call, bit for bit, and that nothing before or behind it is written. Over `sofa::ffi`, since there the
 //! host lends every list.
 use sofa::ffi::{self, BoundingBox, Lookup, Sizes, Sound, Tree, Work};
@@ -144,7 +145,8 @@ impl Host {
 
     fn six(&mut self) -> (u32, usize) {
         let told = ffi::neighbors_of(self.sizes, self.neighbours.get(), self.number);
-        assert!(told.reason == 0 || told.entries == [65535; 6]);
+        let entries = [told.phi_plus, told.phi_minus, told.theta_plus, told.theta_minus, told.radius_plus, told.radius_minus];
+        assert!(told.reason == 0 || entries == [65535; 6]);
         (told.reason, told.place)
     }
 
