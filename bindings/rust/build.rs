@@ -10,14 +10,17 @@ use std::path::{Path, PathBuf};
 fn main() {
     println!("cargo:rerun-if-env-changed=SOFA_LIB_DIR");
     let repository = Path::new(&env::var_os("CARGO_MANIFEST_DIR").unwrap_or_default()).join("../..");
+    let mut header = repository.join("include");
     match archive(&repository) {
         Ok(dir) => {
             println!("cargo:rustc-link-search=native={}", dir.display());
             println!("cargo:root={}", dir.display());
-            println!("cargo:include={}", include(&dir, &repository).display());
+            let beside = dir.join("../include"); // where both were put up together
+            header = if beside.join("sofa.h").is_file() { beside } else { header };
         }
         Err(why) => println!("cargo:warning={why}"),
     }
+    println!("cargo:include={}", header.canonicalize().unwrap_or(header).display());
     println!("cargo:rustc-link-lib=static=sofa");
     println!("cargo:rustc-link-lib=m");
 }
@@ -26,9 +29,9 @@ fn main() {
 fn archive(repository: &Path) -> Result<PathBuf, String> {
     let said = |key: &str| env::var(format!("CARGO_CFG_TARGET_{key}")).unwrap_or_default();
     let (system, machine, width, order) = (said("OS"), said("ARCH"), said("POINTER_WIDTH"), said("ENDIAN"));
-    let written = match (system.as_str(), machine.as_str(), width.as_str(), order.as_str()) {
-        ("linux", "x86_64", "64", "little") => "target/staticlib",
-        ("linux", "aarch64", "64", "little") => "target/native",
+    let (maker, written) = match (system.as_str(), machine.as_str(), width.as_str(), order.as_str()) {
+        ("linux", "x86_64", "64", "little") => ("rt staticlib", "target/staticlib"),
+        ("linux", "aarch64", "64", "little") => ("bench/native", "target/native"),
         _ => {
             let target = env::var("TARGET").unwrap_or_default();
             return Err(format!("libsofa.a is for Linux on x86_64 or aarch64, not for {target}: give --target x86_64-unknown-linux-gnu"));
@@ -38,15 +41,9 @@ fn archive(repository: &Path) -> Result<PathBuf, String> {
     let dir = given.unwrap_or_else(|| repository.join(written));
     let archive = dir.join("libsofa.a");
     println!("cargo:rerun-if-changed={}", archive.display());
-    match archive.is_file() {
-        true => dir.canonicalize().map_err(|e| format!("{}: {e}", dir.display())),
-        false => Err(format!("{} is not there: run `rt staticlib sofa`, or set SOFA_LIB_DIR", archive.display())),
+    if archive.is_file() {
+        dir.canonicalize().map_err(|e| format!("{}: {e}", dir.display()))
+    } else {
+        Err(format!("{} is not there: run `{maker} sofa`, or set SOFA_LIB_DIR; nothing will link", archive.display()))
     }
-}
-
-/// The folder of sofa.h: beside the archive's where both were put up together, else the repository's.
-fn include(dir: &Path, repository: &Path) -> PathBuf {
-    let beside = dir.join("../include");
-    let found = if beside.join("sofa.h").is_file() { beside } else { repository.join("include") };
-    found.canonicalize().unwrap_or(found)
 }

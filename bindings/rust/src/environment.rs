@@ -4,7 +4,9 @@
 //! The proofs are about IEEE 754 as it stands: rounding to nearest even, subnormal numbers kept, no traps. A thread that renders audio often
 //! has it otherwise, and the archive would answer something else there. What decides is one register: read before each call, and written
 //! only where the host has changed it. Nothing in this crate does arithmetic on floats itself.
-pub(crate) use machine::Register;
+//!
+//! Where it is written, the flags of exceptions that the call raised are forgotten with it; else they stay, as after any arithmetic.
+use machine::Register;
 
 /// The host's environment, put aside while this lives. Dropped, the register holds again what it held.
 pub(crate) struct Aside(Option<Register>);
@@ -35,7 +37,7 @@ impl Drop for Aside {
 mod machine {
     use std::arch::asm;
 
-    pub(crate) type Register = u32;
+    pub(super) type Register = u32;
 
     /// Every exception masked, nearest even, neither flush-to-zero (bit 15) nor denormals-are-zero (bit 6).
     pub(super) const DEFAULT: Register = 0x1f80;
@@ -65,7 +67,7 @@ mod machine {
 mod machine {
     use std::arch::asm;
 
-    pub(crate) type Register = u64;
+    pub(super) type Register = u64;
 
     /// No traps, nearest even, no flush-to-zero, NaNs as they come.
     pub(super) const DEFAULT: Register = 0;
@@ -93,7 +95,7 @@ mod machine {
 /// There is no archive for other machines: `build.rs` says so. Documentation builds all the same.
 #[cfg(not(any(target_arch = "x86_64", target_arch = "aarch64")))]
 mod machine {
-    pub(crate) type Register = u32;
+    pub(super) type Register = u32;
 
     pub(super) const DEFAULT: Register = 0;
 

@@ -52,7 +52,7 @@ pub struct Sizes {
     pub n: usize,
 }
 
-/// A box by its six corner coordinates.
+/// A box by its six corner coordinates, in metres.
 #[repr(C)]
 #[derive(Clone, Copy, Debug, Default, PartialEq)]
 #[allow(missing_docs)]
@@ -65,7 +65,8 @@ pub struct BoundingBox {
     pub max_z: f32,
 }
 
-/// What a load hands back and each query goes by: the box of the tree and the six bounds.
+/// What a load hands back and each query goes by: the box of the tree and the six bounds of the positions, azimuth (phi) and elevation
+/// (theta) in degrees, radius in metres.
 #[repr(C)]
 #[derive(Clone, Copy, Debug, Default, PartialEq)]
 #[allow(missing_docs)]

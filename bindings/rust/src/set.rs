@@ -69,7 +69,7 @@ fn filtered(f: ffi::Filtered) -> Result<Filtered, Refusal> {
     })
 }
 
-/// The neighbours of a measurement in six directions, by number.
+/// The neighbours of a measurement in six directions, by number: azimuth (phi), elevation (theta), radius, each up and down.
 #[derive(Clone, Copy, Debug, PartialEq, Eq)]
 #[allow(missing_docs)]
 pub struct Neighbors {
@@ -153,7 +153,8 @@ impl<R: AsRef<[f32]>, D: AsRef<[f32]>> Set<R, D> {
     /// assert_eq!((refusal.reason, refusal.place), (Reason::Position, 2));
     /// ```
     ///
-    /// It allocates the lists of the index: 28 bytes for each measurement.
+    /// It allocates the lists of the index, 28 bytes for each measurement. It is not for an audio thread: by size, order and steps it takes
+    /// from milliseconds to seconds, for which `include/sofa.h` has figures.
     ///
     /// Stack: 2 KiB, and 336 bytes for each level of the tree ([`crate::stack`]); 5.3 MiB are enough for any set.
     pub fn load(described: Description, positions: &[f32], responses: R, delays: D) -> Result<Set<R, D>, Refusal> {
