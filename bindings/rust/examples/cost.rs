@@ -1,6 +1,6 @@
 // SPDX-License-Identifier: MIT OR Apache-2.0
-//! What the floating-point environment costs beside a call: the archive's `sofa_find` and `sofa_root` as they are, through this crate, and through it
-//! in a thread that flushes to zero. The ways take turns in one process, and the least time of each is printed. Built with `--release`.
+//! What the floating-point environment costs beside a call: the archive's `sofa_find` and `sofa_root` as they are, by this crate, and by it in a
+//! thread that flushes to zero. The ways take turns in one process, and the least time of each is printed. Build it with `--release`.
 use sofa::ffi::{self, Found, Lookup, Sizes, Tree};
 use sofa::{Description, Kind, Set};
 use std::hint::black_box;
