@@ -214,6 +214,7 @@ mod c {
     // This repeats include/sofa.h, to which tests/layouts.rs holds it. The archive itself has no types that it could be held to.
     #[rustfmt::skip]
     extern "C" {
+        pub fn sofa_version() -> u32;
         pub fn sofa_root(x: f32) -> f32;
         pub fn sofa_sine(x: f32) -> Value;
         pub fn sofa_cosine(x: f32) -> Value;
@@ -269,6 +270,12 @@ mod c {
 fn call<T>(made: impl FnOnce() -> T) -> T {
     let _host = Aside::put();
     made()
+}
+
+/// The archive's version: 65536 times the first part, 256 times the second, and the third.
+pub fn version() -> u32 {
+    // SAFETY: a number by value only.
+    call(|| unsafe { c::sofa_version() })
 }
 
 /// The correctly rounded square root, of every f32.

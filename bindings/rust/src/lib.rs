@@ -85,6 +85,9 @@
 //! `SOFA_LIB_DIR` names another folder, by its absolute path. Without the archive documentation builds and checks run, with a warning; what
 //! links does not.
 //!
+//! The crate is for the archive of its own version: [`version`] says which is linked. A newer one may give reasons that have no name here
+//! ([`Reason::Unknown`]).
+//!
 //! The build script of a crate that depends on this one is told of the archive's folder as `DEP_SOFA_ROOT`, and of that of `sofa.h` as
 //! `DEP_SOFA_INCLUDE`.
 #![warn(missing_docs)]
@@ -107,6 +110,16 @@ pub use set::{Delays, Filtered, Index, Neighbors, Seconds, Set};
 pub use tree::Tree;
 
 use refusal::said;
+
+/// The version of the archive that is linked, in its three parts. It should be the crate's own, and is that of the header beside it.
+///
+/// ```
+/// assert_eq!(sofa::version().map(|part| part.to_string()).join("."), env!("CARGO_PKG_VERSION"));
+/// ```
+pub fn version() -> [u32; 3] {
+    let version = ffi::version();
+    [version >> 16, version >> 8 & 255, version & 255]
+}
 
 /// The correctly rounded square root, of every f32.
 ///

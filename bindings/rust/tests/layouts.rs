@@ -116,6 +116,8 @@ fn asked() -> String {
             holds(format!("_Generic((({name} *)0)->{field}, {}: 1, default: 0)", in_c(rust)));
         }
     }
+    let [first, second, third] = sofa::version();
+    holds(format!("SOFA_VERSION_MAJOR == {first} && SOFA_VERSION_MINOR == {second} && SOFA_VERSION_PATCH == {third}"));
     for (name, number) in [("", stack::CALL), ("_LEVEL", stack::LEVEL), ("_LOAD", stack::LOAD), ("_INSERT", stack::INSERT)] {
         holds(format!("SOFA_STACK{name} == {number}"));
     }
@@ -193,5 +195,5 @@ fn arguments_by_name() {
         let last = |part| str::rsplit(part, [' ', '*']).next().filter(|n| *n != "void");
         assert_eq!(listed.split(',').filter_map(last).collect::<Vec<_>>(), here, "{name}");
     }
-    assert!(calls().len() >= 18);
+    assert!(calls().len() >= 19);
 }
