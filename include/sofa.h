@@ -48,7 +48,7 @@
  *            call of fmodf (in a conversion or a load) and of memset (in a filter): 3.1 KiB were measured with glibc 2.36 on a processor
  *            with AVX-512, whose registers it puts there. Link with -z now, or count it, or make one such call on a roomier stack first.
  *
- * The archive, libsofa.a, is for x86-64 Linux (System V calls, any x86-64 processor) and can stand in a shared library. It needs the C
+ * The archive, libsofa.a (bin/archive), is for Linux on x86-64 or on 64-bit Arm, any processor of the kind, and can stand in a shared library. It needs the C
  * library's memset and fmodf, so link -lm behind it, and nothing else. A shared library that should not hand these names on, a plug-in
  * for one, of which a process may hold two, is linked with -Wl,--exclude-libs,ALL (GNU ld and lld).
  *

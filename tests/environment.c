@@ -3,8 +3,6 @@
  * whatever the host has in force: flush-to-zero of results, of operands, of both, the three other rounding directions, exceptions that are
  * not masked, flags. Flushing and rounding each change an answer where the two are left out, so that the comparison can fail; and what the
  * header names is met: a refusal that is lost, another measurement, a wrong root.
- *
- * With ALONE nothing is called: the two functions are held to the machine's own arithmetic. That part also runs where there is no archive.
  */
 #include <stdio.h>
 #include <string.h>
@@ -100,21 +98,6 @@ static void keep_bits(record *r, float f) {
     keep(r, &f, sizeof f);
 }
 
-#ifdef ALONE
-
-/* The machine's own arithmetic on numbers that a compiler cannot work out before: what is flushed, what is rounded. */
-static __attribute__((noinline)) void ask(record *r) {
-    r->count = 0;
-    static volatile float tiny = 1e-40f, small = 1e-30f, one = 1, three = 3;
-    keep_bits(r, tiny * one);
-    keep_bits(r, small * 1e-10f);
-    keep_bits(r, one / three);
-    keep_bits(r, -one / three);
-    keep_bits(r, one + small);
-    keep_bits(r, one - small);
-}
-
-#else
 
 static void keep_refusal(record *r, uint32_t reason, size_t place) {
     keep(r, &reason, sizeof reason);
@@ -295,7 +278,6 @@ static void check_named(uint32_t start) {
     check(n.root < 9e-21f, "the root is right all the same", hosts[FLUSHED].name);
 }
 
-#endif
 
 static record wanted, got;
 
@@ -318,12 +300,8 @@ int main(void) {
         set(start);
         check(memcmp(got.bytes, wanted.bytes, wanted.count) != 0, "changes no answer: this test could not fail", hosts[i].name);
     }
-#ifndef ALONE
     check_named(start);
     printf("environment: %zu bytes of answers the same in %d environments of a host, and other ones in %d of them without sofa_enter\n",
            wanted.count, (int)HOSTS, (int)CHANGED);
-#else
-    printf("environment: sofa_enter and sofa_leave hold the machine's arithmetic in %d environments of a host\n", (int)HOSTS);
-#endif
     return failed != 0;
 }

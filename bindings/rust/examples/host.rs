@@ -1,11 +1,12 @@
+// SPDX-License-Identifier: MIT OR Apache-2.0
 //! The C host of `examples/host.c` in Rust: loads a set of two measurements, asks a blended, an exact and a refused query, and prints the same.
-use sofa::{Coordinates, Filtered, Kind, Refusal, Set, Sizes};
+use sofa::{Coordinates, Description, Filtered, Kind, Refusal, Set};
 
-const SIZES: Sizes = Sizes { m: 2, c: 3, r: 2, n: 1 };
 const POSITIONS: [f32; 6] = [1.0, 0.0, 0.0, -1.0, 0.0, 0.0];
 
 fn load(kind: Kind) -> Result<Set<Vec<f32>>, Refusal> {
-    Set::load(kind, SIZES, &POSITIONS, vec![0.5, 0.25, 1.0, 0.0], vec![375.0, 0.0], 0.5, 0.01, 48000.0)
+    let described = Description { kind, m: 2, n: 1, rate: 48000.0, ..Description::default() };
+    Set::load(described, &POSITIONS, vec![0.5, 0.25, 1.0, 0.0], vec![375.0, 0.0])
 }
 
 fn ask(set: &Set<Vec<f32>>, at: Coordinates) -> Result<(), Refusal> {
@@ -18,8 +19,8 @@ fn ask(set: &Set<Vec<f32>>, at: Coordinates) -> Result<(), Refusal> {
         }
     };
     let (how, delays) = match told {
-        Filtered::Exact(delays) => ("exact", delays),
-        Filtered::Blended(delays, _) => ("blended", delays),
+        Filtered::Exact { delays, .. } => ("exact", delays),
+        Filtered::Blended { delays, .. } => ("blended", delays),
     };
     let (points, nearest) = (told.points(), set.find(at)?);
     println!("{how} of {points}, nearest {nearest}: left {} right {}, delays {} {} s", left[0], right[0], delays.left.0, delays.right.0);

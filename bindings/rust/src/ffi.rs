@@ -1,16 +1,20 @@
+// SPDX-License-Identifier: MIT OR Apache-2.0
 //! Every call of `include/sofa.h`, a slice for each pointer with its count: nothing is allocated, and the host keeps the lists.
 //!
-//! This is the only module with `unsafe` in it. What makes each call sound is the same throughout:
+//! Each call is made in the default floating-point environment, and the host's is in force again afterwards.
+//!
+//! All `unsafe` is here, but for the register of that environment. What makes each call sound is the same throughout:
 //!
 //! - **Pointers and counts.** Each pair is taken from one slice, so it leads to as many initialised elements as it says. An empty slice's
 //!   pointer is not read, since its count is 0. `sofa_find_mut` takes three elements and is given an array of three.
 //! - **Overlap.** The archive wants what it writes apart from its other lists: exclusive references are.
 //! - **Values.** Each call answers for every input, refused or not, reads and writes within the counts and keeps no pointer: that is what
 //!   the archive's contracts promise. Every bit pattern is a number of the types that cross.
-//! - **Layout.** The structs are `repr(C)` with the header's fields in the header's order, and the declarations repeat its prototypes.
+//! - **Layout.** The structs are `repr(C)` with the header's fields in the header's order, and the declarations repeat its prototypes: a C
+//!   compiler is asked whether they do (tests/layouts.rs).
 //!
-//! A search goes one level deeper for each level of the tree, which is the stack that the header gives for it: a tree that is one chain of
-//! 16384 places wants more than the 2 MiB of a thread that `std::thread::spawn` starts.
+//! The stack that a call wants is that of [`crate::stack`].
+use crate::environment::Aside;
 
 /// A refusal alone: `reason` is 0 for none.
 #[repr(C)]
@@ -48,7 +52,7 @@ pub struct Sizes {
     pub n: usize,
 }
 
-/// A box by its six corner coordinates.
+/// A box by its six corner coordinates, in metres.
 #[repr(C)]
 #[derive(Clone, Copy, Debug, Default, PartialEq)]
 #[allow(missing_docs)]
@@ -61,7 +65,8 @@ pub struct BoundingBox {
     pub max_z: f32,
 }
 
-/// What a load hands back and each query goes by: the box of the tree and the six bounds.
+/// What a load hands back and each query goes by: the box of the tree and the six bounds of the positions, azimuth (phi) and elevation
+/// (theta) in degrees, radius in metres.
 #[repr(C)]
 #[derive(Clone, Copy, Debug, Default, PartialEq)]
 #[allow(missing_docs)]
@@ -151,8 +156,18 @@ pub struct Six {
     pub reason: u32,
     /// Where it was met.
     pub place: usize,
-    /// Azimuth +, azimuth -, elevation +, elevation -, radius +, radius -.
-    pub entries: [u16; 6],
+    /// Azimuth +.
+    pub phi_plus: u16,
+    /// Azimuth −.
+    pub phi_minus: u16,
+    /// Elevation +.
+    pub theta_plus: u16,
+    /// Elevation −.
+    pub theta_minus: u16,
+    /// Radius +.
+    pub radius_plus: u16,
+    /// Radius −.
+    pub radius_minus: u16,
 }
 
 /// A point or a query: x, y, z.
@@ -196,9 +211,10 @@ pub struct Work<'a> {
 mod c {
     use super::*;
 
-    // Not one line of this is checked against the archive: it repeats include/sofa.h.
+    // This repeats include/sofa.h, to which tests/layouts.rs holds it. The archive itself has no types that it could be held to.
     #[rustfmt::skip]
     extern "C" {
+        pub fn sofa_version() -> u32;
         pub fn sofa_root(x: f32) -> f32;
         pub fn sofa_sine(x: f32) -> Value;
         pub fn sofa_cosine(x: f32) -> Value;
@@ -249,40 +265,53 @@ mod c {
     }
 }
 
+/// Makes a call in the default floating-point environment.
+#[inline]
+fn call<T>(made: impl FnOnce() -> T) -> T {
+    let _host = Aside::put();
+    made()
+}
+
+/// The archive's version: 65536 times the first part, 256 times the second, and the third.
+pub fn version() -> u32 {
+    // SAFETY: a number by value only.
+    call(|| unsafe { c::sofa_version() })
+}
+
 /// The correctly rounded square root, of every f32.
 pub fn root(x: f32) -> f32 {
     // SAFETY: numbers by value only.
-    unsafe { c::sofa_root(x) }
+    call(|| unsafe { c::sofa_root(x) })
 }
 
 /// Refused 7 beyond ±16 or not finite.
 pub fn sine(x: f32) -> Value {
     // SAFETY: numbers by value only.
-    unsafe { c::sofa_sine(x) }
+    call(|| unsafe { c::sofa_sine(x) })
 }
 
 /// Refused 7 beyond ±16 or not finite.
 pub fn cosine(x: f32) -> Value {
     // SAFETY: numbers by value only.
-    unsafe { c::sofa_cosine(x) }
+    call(|| unsafe { c::sofa_cosine(x) })
 }
 
 /// Refused 7 where y (place 0) or x (place 1) is not finite.
 pub fn arctangent(y: f32, x: f32) -> Value {
     // SAFETY: numbers by value only.
-    unsafe { c::sofa_arctangent(y, x) }
+    call(|| unsafe { c::sofa_arctangent(y, x) })
 }
 
 /// Cartesian triplets to spherical ones in place, or refusal 4.
 pub fn to_spherical(values: &mut [f32]) -> Refused {
     // SAFETY: pointer and count of one exclusive slice.
-    unsafe { c::sofa_to_spherical(values.as_mut_ptr(), values.len()) }
+    call(|| unsafe { c::sofa_to_spherical(values.as_mut_ptr(), values.len()) })
 }
 
 /// Spherical triplets to Cartesian ones in place, or refusal 4.
 pub fn to_cartesian(values: &mut [f32]) -> Refused {
     // SAFETY: pointer and count of one exclusive slice.
-    unsafe { c::sofa_to_cartesian(values.as_mut_ptr(), values.len()) }
+    call(|| unsafe { c::sofa_to_cartesian(values.as_mut_ptr(), values.len()) })
 }
 
 /// A point for the next place of the bare tree, or refusal 3 or 9.
@@ -292,24 +321,24 @@ pub fn tree_insert(
     count: usize, bounds: BoundingBox, positions: &mut [f32], left: &mut [u16], right: &mut [u16], numbers: &mut [u16], p: Coordinates, number: u16,
 ) -> Inserted {
     // SAFETY: pointers and counts of four exclusive slices.
-    unsafe {
+    call(|| unsafe {
         c::sofa_tree_insert(
             count, bounds, positions.as_mut_ptr(), positions.len(), left.as_mut_ptr(), left.len(), right.as_mut_ptr(), right.len(),
             numbers.as_mut_ptr(), numbers.len(), p[0], p[1], p[2], number,
         )
-    }
+    })
 }
 
 /// The number of the nearest place of the bare tree, 65535 where it is empty, or refusal 3 or 9.
 #[rustfmt::skip]
 pub fn tree_nearest(count: usize, bounds: BoundingBox, t: Tree, numbers: &[u16], q: Coordinates) -> Found {
     // SAFETY: pointers and counts of shared slices, which the archive only reads.
-    unsafe {
+    call(|| unsafe {
         c::sofa_tree_nearest(
             count, bounds, t.positions.as_ptr(), t.positions.len(), t.left.as_ptr(), t.left.len(), t.right.as_ptr(), t.right.len(),
             numbers.as_ptr(), numbers.len(), q[0], q[1], q[2],
         )
-    }
+    })
 }
 
 /// A set made ready, or refusal 1 to 6.
@@ -319,37 +348,37 @@ pub fn load(
     kind: u32, sizes: Sizes, positions: &[f32], responses: &[f32], angle_step: f32, radius_step: f32, rate: f32, w: Work,
 ) -> Loaded {
     // SAFETY: pointers and counts of two shared slices, only read, and of four exclusive ones.
-    unsafe {
+    call(|| unsafe {
         c::sofa_load(
             kind, sizes, positions.as_ptr(), positions.len(), responses.as_ptr(), responses.len(), angle_step, radius_step, rate,
             w.left.as_mut_ptr(), w.left.len(), w.right.as_mut_ptr(), w.right.len(), w.neighbours.as_mut_ptr(), w.neighbours.len(),
             w.cartesian.as_mut_ptr(), w.cartesian.len(),
         )
-    }
+    })
 }
 
 /// The number of the nearest measurement, or refusal 2, 3, 7 or 9.
 #[rustfmt::skip]
 pub fn find(sizes: Sizes, lookup: Lookup, t: Tree, q: Coordinates) -> Found {
     // SAFETY: pointers and counts of shared slices, only read.
-    unsafe {
+    call(|| unsafe {
         c::sofa_find(
             sizes, lookup, t.positions.as_ptr(), t.positions.len(), t.left.as_ptr(), t.left.len(), t.right.as_ptr(), t.right.len(),
             q[0], q[1], q[2],
         )
-    }
+    })
 }
 
 /// The same, leaving the query drawn to the measured radii; refused, it stays.
 #[rustfmt::skip]
 pub fn find_mut(sizes: Sizes, lookup: Lookup, t: Tree, q: &mut Coordinates) -> Found {
     // SAFETY: as `find`; the coordinates are an exclusive array of three.
-    unsafe {
+    call(|| unsafe {
         c::sofa_find_mut(
             sizes, lookup, t.positions.as_ptr(), t.positions.len(), t.left.as_ptr(), t.left.len(), t.right.as_ptr(), t.right.len(),
             q.as_mut_ptr(),
         )
-    }
+    })
 }
 
 /// The filter at a query, or refusal 2, 3, 6, 7 or 9 with +0 in every sample.
@@ -359,13 +388,13 @@ pub fn filter(
     sizes: Sizes, lookup: Lookup, t: Tree, neighbours: &[u16], s: Sound, q: Coordinates, left: &mut [f32], right: &mut [f32],
 ) -> Filtered {
     // SAFETY: pointers and counts of shared slices, only read, and of two exclusive ones.
-    unsafe {
+    call(|| unsafe {
         c::sofa_filter(
             sizes, lookup, t.positions.as_ptr(), t.positions.len(), t.left.as_ptr(), t.left.len(), t.right.as_ptr(), t.right.len(),
             neighbours.as_ptr(), neighbours.len(), s.responses.as_ptr(), s.responses.len(), s.delays.as_ptr(), s.delays.len(), s.rate,
             q[0], q[1], q[2], left.as_mut_ptr(), left.len(), right.as_mut_ptr(), right.len(),
         )
-    }
+    })
 }
 
 /// The nearest measurement's filter, nothing blended, or refusal 2, 3, 6, 7 or 9 with +0 in every sample.
@@ -374,47 +403,47 @@ pub fn filter_nointerp(
     sizes: Sizes, lookup: Lookup, t: Tree, s: Sound, q: Coordinates, left: &mut [f32], right: &mut [f32],
 ) -> Filtered {
     // SAFETY: pointers and counts of shared slices, only read, and of two exclusive ones.
-    unsafe {
+    call(|| unsafe {
         c::sofa_filter_nointerp(
             sizes, lookup, t.positions.as_ptr(), t.positions.len(), t.left.as_ptr(), t.left.len(), t.right.as_ptr(), t.right.len(),
             s.responses.as_ptr(), s.responses.len(), s.delays.as_ptr(), s.delays.len(), s.rate,
             q[0], q[1], q[2], left.as_mut_ptr(), left.len(), right.as_mut_ptr(), right.len(),
         )
-    }
+    })
 }
 
 /// A measurement's filter, or refusal 2, 3, 6 or 8 with +0 in every sample.
 #[rustfmt::skip]
 pub fn filter_number(sizes: Sizes, s: Sound, number: usize, left: &mut [f32], right: &mut [f32]) -> Filtered {
     // SAFETY: pointers and counts of shared slices, only read, and of two exclusive ones.
-    unsafe {
+    call(|| unsafe {
         c::sofa_filter_number(
             sizes, s.responses.as_ptr(), s.responses.len(), s.delays.as_ptr(), s.delays.len(), s.rate, number,
             left.as_mut_ptr(), left.len(), right.as_mut_ptr(), right.len(),
         )
-    }
+    })
 }
 
 /// Where a measurement's left taps stand, or refusal 2, 3 or 8.
 pub fn left_response(sizes: Sizes, responses: &[f32], number: usize) -> Part {
     // SAFETY: pointer and count of one shared slice, only read.
-    unsafe { c::sofa_left_response(sizes, responses.as_ptr(), responses.len(), number) }
+    call(|| unsafe { c::sofa_left_response(sizes, responses.as_ptr(), responses.len(), number) })
 }
 
 /// Where a measurement's right taps stand, or refusal 2, 3 or 8.
 pub fn right_response(sizes: Sizes, responses: &[f32], number: usize) -> Part {
     // SAFETY: pointer and count of one shared slice, only read.
-    unsafe { c::sofa_right_response(sizes, responses.as_ptr(), responses.len(), number) }
+    call(|| unsafe { c::sofa_right_response(sizes, responses.as_ptr(), responses.len(), number) })
 }
 
 /// A measurement's six entries as they stand, or refusal 2, 3 or 8.
 pub fn neighbors_of(sizes: Sizes, neighbours: &[u16], number: usize) -> Six {
     // SAFETY: pointer and count of one shared slice, only read.
-    unsafe { c::sofa_neighbors_of(sizes, neighbours.as_ptr(), neighbours.len(), number) }
+    call(|| unsafe { c::sofa_neighbors_of(sizes, neighbours.as_ptr(), neighbours.len(), number) })
 }
 
 /// The longest delay in seconds, or refusal 6.
 pub fn max_delay(delays: &[f32], rate: f32) -> Value {
     // SAFETY: pointer and count of one shared slice, only read.
-    unsafe { c::sofa_max_delay(delays.as_ptr(), delays.len(), rate) }
+    call(|| unsafe { c::sofa_max_delay(delays.as_ptr(), delays.len(), rate) })
 }

@@ -1,38 +1,65 @@
+// SPDX-License-Identifier: MIT OR Apache-2.0
 //! What a call says no to.
 use std::error::Error;
 use std::fmt;
 
-/// Why a call was refused: document 01's table, of which the first line that is met is given.
+/// Why a call was refused: document 01's table, of which the first line that is met is given. Later versions have more of them.
 #[derive(Clone, Copy, Debug, PartialEq, Eq, Hash)]
-#[repr(u32)]
+#[non_exhaustive]
 pub enum Reason {
     /// 1: the position kind is neither Cartesian nor spherical. The place is the kind.
-    Kind = 1,
+    Kind,
     /// 2: a size is not allowed.
-    Sizes = 2,
+    Sizes,
     /// 3: a list is too short, the positions are not three for each measurement, or the tree is full.
-    Lists = 3,
+    Lists,
     /// 4: a position value is not allowed. The place is its first index.
-    Position = 4,
+    Position,
     /// 5: a step is not allowed. Place 0 is the angle step, 1 the radius step.
-    Step = 5,
+    Step,
     /// 6: the rate is not allowed.
-    Rate = 6,
+    Rate,
     /// 7: a coordinate is not finite, or an angle is not finite or beyond ±16. The place is the axis or the argument.
-    NotFinite = 7,
+    NotFinite,
     /// 8: there is no measurement of this number. The place is the number.
-    Number = 8,
+    Number,
     /// 9: a link or a neighbour is bad, or a search would visit more places than there are.
-    Link = 9,
+    Link,
+    /// A number that this version has no name for, from an archive that is newer than the crate.
+    #[non_exhaustive]
+    Unknown {
+        /// The archive's number.
+        number: u32,
+    },
 }
 
 impl Reason {
-    const ALL: [Reason; 9] =
+    /// In the order of their numbers, from 1 on.
+    const NAMED: [Reason; 9] =
         [Reason::Kind, Reason::Sizes, Reason::Lists, Reason::Position, Reason::Step, Reason::Rate, Reason::NotFinite, Reason::Number, Reason::Link];
 
-    /// Document 01's number, 1 to 9.
+    /// The archive's number for it, as in document 01 and in `include/sofa.h`.
     pub fn number(self) -> u32 {
-        self as u32
+        match self {
+            Reason::Kind => 1,
+            Reason::Sizes => 2,
+            Reason::Lists => 3,
+            Reason::Position => 4,
+            Reason::Step => 5,
+            Reason::Rate => 6,
+            Reason::NotFinite => 7,
+            Reason::Number => 8,
+            Reason::Link => 9,
+            Reason::Unknown { number } => number,
+        }
+    }
+
+    /// What the archive's number says: nothing for 0, which is no refusal.
+    pub fn of(number: u32) -> Option<Reason> {
+        match number {
+            0 => None,
+            _ => Some(Reason::NAMED.into_iter().find(|r| r.number() == number).unwrap_or(Reason::Unknown { number })),
+        }
     }
 
     fn words(self) -> &'static str {
@@ -46,6 +73,7 @@ impl Reason {
             Reason::NotFinite => "a coordinate or an angle is not finite or out of range",
             Reason::Number => "there is no measurement of this number",
             Reason::Link => "a link or a neighbour is bad, or the search would visit more places than there are",
+            Reason::Unknown { .. } => "a reason that this version has no words for",
         }
     }
 }
@@ -73,13 +101,10 @@ impl fmt::Display for Refusal {
 
 impl Error for Refusal {}
 
-/// An answer's first two fields: reason 0 is none. The archive answers 0 to 9 and nothing else.
+/// An answer's first two fields.
 pub(crate) fn said(reason: u32, place: usize) -> Result<(), Refusal> {
-    match Reason::ALL.into_iter().find(|r| r.number() == reason) {
+    match Reason::of(reason) {
+        None => Ok(()),
         Some(reason) => Err(Refusal { reason, place }),
-        None => {
-            assert_eq!(reason, 0, "no such refusal");
-            Ok(())
-        }
     }
 }

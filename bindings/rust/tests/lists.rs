@@ -1,3 +1,4 @@
+// SPDX-License-Identifier: MIT OR Apache-2.0
 //! What each lent list holds after a call, bit for bit, and that nothing before or behind it is written. Over `sofa::ffi`, since there the
 //! host lends every list.
 use sofa::ffi::{self, BoundingBox, Lookup, Sizes, Sound, Tree, Work};
@@ -144,7 +145,8 @@ impl Host {
 
     fn six(&mut self) -> (u32, usize) {
         let told = ffi::neighbors_of(self.sizes, self.neighbours.get(), self.number);
-        assert!(told.reason == 0 || told.entries == [65535; 6]);
+        let entries = [told.phi_plus, told.phi_minus, told.theta_plus, told.theta_minus, told.radius_plus, told.radius_minus];
+        assert!(told.reason == 0 || entries == [65535; 6]);
         (told.reason, told.place)
     }
 
@@ -174,12 +176,12 @@ impl Host {
         (told.reason, told.place)
     }
 
-    fn to_spherical(&mut self) -> (u32, usize) {
+    fn make_spherical(&mut self) -> (u32, usize) {
         let told = ffi::to_spherical(self.values.lend());
         (told.reason, told.place)
     }
 
-    fn to_cartesian(&mut self) -> (u32, usize) {
+    fn make_cartesian(&mut self) -> (u32, usize) {
         let told = ffi::to_cartesian(self.values.lend());
         (told.reason, told.place)
     }
@@ -210,8 +212,8 @@ const SIX: Call = |h| h.six();
 const INSERT: Call = |h| h.insert();
 const NEAREST: Call = |h| h.nearest();
 const LONGEST: Call = |h| h.longest();
-const TO_SPHERICAL: Call = |h| h.to_spherical();
-const TO_CARTESIAN: Call = |h| h.to_cartesian();
+const TO_SPHERICAL: Call = |h| h.make_spherical();
+const TO_CARTESIAN: Call = |h| h.make_cartesian();
 
 /// The number, its place, what is spoilt, and the calls that say so.
 const REFUSALS: [(u32, usize, Spoil, &[Call]); 30] = [
@@ -306,7 +308,7 @@ fn a_load_writes_what_it_says() {
 #[test]
 fn a_conversion_leaves_the_rest() {
     let mut host = fresh();
-    assert_eq!(host.to_spherical(), (0, 0));
+    assert_eq!(host.make_spherical(), (0, 0));
     assert_eq!(host.values.get()[2..3], [3.0]);
     assert_eq!(
         host.values.0[PAD + 6..].iter().map(|x| x.to_bits()).collect::<Vec<_>>(),

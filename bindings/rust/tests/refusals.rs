@@ -1,38 +1,34 @@
+// SPDX-License-Identifier: MIT OR Apache-2.0
 //! Each refusal, 1 to 9, with its place; and the ends of what is allowed.
-use sofa::{Index, Kind, Reason, Refusal, Set, Sizes, Tree};
+use sofa::{Description, Index, Kind, Reason, Refusal, Set, Tree};
 
-const SIZES: Sizes = Sizes { m: 2, c: 3, r: 2, n: 1 };
 const POSITIONS: [f32; 6] = [1.0, 0.0, 0.0, 0.0, 1.0, 0.0];
 const RESPONSES: [f32; 4] = [0.5, 0.25, 1.0, 0.0];
 
-type Slices = Set<&'static [f32]>;
+type Slices = Set<&'static [f32], [f32; 0]>;
 
 /// What a load is given, in order until a test changes it.
 struct Given {
-    kind: Kind,
-    sizes: Sizes,
+    described: Description,
     positions: Vec<f32>,
     responses: &'static [f32],
-    angle_step: f32,
-    radius_step: f32,
-    rate: f32,
+}
+
+fn described() -> Description {
+    Description { kind: Kind::CARTESIAN, m: 2, n: 1, angle_step: 45.0, radius_step: 0.5, rate: 48000.0, ..Description::default() }
 }
 
 fn given() -> Given {
-    Given {
-        kind: Kind::CARTESIAN,
-        sizes: SIZES,
-        positions: POSITIONS.to_vec(),
-        responses: &RESPONSES,
-        angle_step: 45.0,
-        radius_step: 0.5,
-        rate: 48000.0,
-    }
+    as_described(described())
+}
+
+fn as_described(described: Description) -> Given {
+    Given { described, positions: POSITIONS.to_vec(), responses: &RESPONSES }
 }
 
 impl Given {
     fn load(self) -> Result<Slices, Refusal> {
-        Set::load(self.kind, self.sizes, &self.positions, self.responses, &[], self.angle_step, self.radius_step, self.rate)
+        Set::load(self.described, &self.positions, self.responses, [])
     }
 
     fn refused(self) -> (Reason, usize) {
@@ -51,25 +47,24 @@ fn told<T: std::fmt::Debug>(answer: Result<T, Refusal>) -> (Reason, usize) {
 #[test]
 fn reason_1_the_kind() {
     for kind in [2, 7, 255, u32::MAX] {
-        assert_eq!(Given { kind: Kind(kind), ..given() }.refused(), (Reason::Kind, kind as usize));
+        assert_eq!(as_described(Description { kind: Kind(kind), ..described() }).refused(), (Reason::Kind, kind as usize));
     }
 }
 
 #[test]
 fn reason_2_the_sizes() {
-    for sizes in [
-        Sizes { m: 0, ..SIZES },
-        Sizes { m: 16385, ..SIZES },
-        Sizes { m: usize::MAX, ..SIZES },
-        Sizes { m: usize::MAX / 3 + 1, ..SIZES },
-        Sizes { c: 2, ..SIZES },
-        Sizes { r: 1, ..SIZES },
-        Sizes { r: 9, ..SIZES },
-        Sizes { n: 8193, ..SIZES },
-        Sizes { n: usize::MAX / 4 + 1, ..SIZES },
+    for spoilt in [
+        Description { m: 0, ..described() },
+        Description { m: 16385, ..described() },
+        Description { m: usize::MAX, ..described() },
+        Description { m: usize::MAX / 3 + 1, ..described() },
+        Description { r: 1, ..described() },
+        Description { r: 9, ..described() },
+        Description { n: 8193, ..described() },
+        Description { n: usize::MAX / 4 + 1, ..described() },
     ] {
-        assert_eq!(Given { sizes, ..given() }.refused(), (Reason::Sizes, 0));
-        let set: Slices = Set::with_index(sizes, given().load().unwrap().index().clone(), &RESPONSES, &[], 48000.0);
+        assert_eq!(as_described(spoilt).refused(), (Reason::Sizes, 0));
+        let set: Slices = Set::with_index(spoilt, given().load().unwrap().into_index(), &RESPONSES, []);
         let (mut left, mut right) = ([9.0; 2], [9.0; 1]);
         assert_eq!(told(set.find([1.0, 0.0, 0.0])), (Reason::Sizes, 0));
         assert_eq!(told(set.find_mut(&mut [1.0, 0.0, 0.0])), (Reason::Sizes, 0));
@@ -87,17 +82,18 @@ fn reason_3_the_lists() {
     assert_eq!(Given { positions: vec![0.0; 5], ..given() }.refused(), (Reason::Lists, 0));
     assert_eq!(Given { positions: vec![0.0; 7], ..given() }.refused(), (Reason::Lists, 0));
     assert_eq!(Given { responses: &RESPONSES[1..], ..given() }.refused(), (Reason::Lists, 0));
-    let index = given().load().unwrap().index().clone();
+    let index = given().load().unwrap().into_index();
     let short: [fn(&mut Index); 4] = [|i| i.left.truncate(1), |i| i.right.truncate(1), |i| i.cartesian.truncate(5), |i| i.neighbours.truncate(11)];
     for (which, cut) in short.iter().enumerate() {
         let mut index = index.clone();
         cut(&mut index);
-        let set: Slices = Set::with_index(SIZES, index, &RESPONSES, &[], 48000.0);
+        let set: Slices = Set::with_index(described(), index, &RESPONSES, []);
         let (mut left, mut right) = ([9.0; 2], [9.0; 1]);
         assert_eq!(told(set.filter([1.0, 0.0, 0.0], &mut left, &mut right)), (Reason::Lists, 0));
         assert_eq!((left, right), ([0.0; 2], [0.0; 1]));
         assert_eq!(set.find([1.0, 0.0, 0.0]).is_err(), which < 3); // it is given no neighbours
         assert_eq!(set.neighbors_of(0).is_err(), which == 3); // it is given nothing else
+        assert_eq!(set.position(1).err(), Some(Refusal { reason: Reason::Lists, place: 0 }).filter(|_| which == 2));
     }
 }
 
@@ -131,7 +127,10 @@ fn reason_4_a_position() {
         let before = positions.clone();
         assert_eq!(told(sofa::to_cartesian(&mut positions)), (Reason::Position, index));
         assert_eq!(positions, before);
-        assert_eq!(Given { kind: Kind::SPHERICAL, positions, ..given() }.refused(), (Reason::Position, index));
+        assert_eq!(
+            Given { described: Description { kind: Kind::SPHERICAL, ..described() }, positions, ..given() }.refused(),
+            (Reason::Position, index)
+        );
     }
     assert_eq!(told(sofa::to_spherical(&mut [1.0, 0.0, 0.0, 0.0, 1e38, 0.0])), (Reason::Position, 4));
 }
@@ -140,21 +139,22 @@ fn reason_4_a_position() {
 fn reason_5_a_step() {
     let up = f32::from_bits(0x42340001); // the next above 45
     for angle_step in [up, 0.099999994, f32::NAN] {
-        assert_eq!(Given { angle_step, ..given() }.refused(), (Reason::Step, 0));
+        assert_eq!(as_described(Description { angle_step, ..described() }).refused(), (Reason::Step, 0));
     }
     for radius_step in [1.0000001, 0.0009999999, -1.0] {
-        assert_eq!(Given { radius_step, ..given() }.refused(), (Reason::Step, 1));
+        assert_eq!(as_described(Description { radius_step, ..described() }).refused(), (Reason::Step, 1));
     }
-    assert_eq!(Given { angle_step: up, radius_step: 2.0, ..given() }.refused(), (Reason::Step, 0));
-    assert!(Given { angle_step: 45.0, ..given() }.load().is_ok());
-    assert!(Given { angle_step: 0.1, radius_step: 0.001, ..given() }.load().is_ok());
+    assert_eq!(as_described(Description { angle_step: up, radius_step: 2.0, ..described() }).refused(), (Reason::Step, 0));
+    assert!(as_described(Description { angle_step: 45.0, ..described() }).load().is_ok());
+    assert!(as_described(Description { angle_step: 0.1, radius_step: 0.001, ..described() }).load().is_ok());
 }
 
 #[test]
 fn reason_6_the_rate() {
     for rate in [999.99994, 384000.03, f32::NAN, f32::INFINITY] {
-        assert_eq!(Given { rate, ..given() }.refused(), (Reason::Rate, 0));
-        let set: Slices = Set::with_index(SIZES, given().load().unwrap().index().clone(), &RESPONSES, &[], rate);
+        let spoilt = Description { rate, ..described() };
+        assert_eq!(as_described(spoilt).refused(), (Reason::Rate, 0));
+        let set: Slices = Set::with_index(spoilt, given().load().unwrap().into_index(), &RESPONSES, []);
         let (mut left, mut right) = ([9.0; 2], [9.0; 1]);
         assert_eq!(told(set.filter([1.0, 0.0, 0.0], &mut left, &mut right)), (Reason::Rate, 0));
         assert_eq!(told(set.filter_nointerp([1.0, 0.0, 0.0], &mut left, &mut right)), (Reason::Rate, 0));
@@ -162,8 +162,8 @@ fn reason_6_the_rate() {
         assert_eq!(told(set.max_delay()), (Reason::Rate, 0));
         assert_eq!((left, right), ([0.0; 2], [0.0; 1]));
     }
-    assert!(Given { rate: 1000.0, ..given() }.load().is_ok());
-    assert!(Given { rate: 384000.0, ..given() }.load().is_ok());
+    assert!(as_described(Description { rate: 1000.0, ..described() }).load().is_ok());
+    assert!(as_described(Description { rate: 384000.0, ..described() }).load().is_ok());
 }
 
 #[test]
@@ -199,17 +199,18 @@ fn reason_8_the_number() {
         assert_eq!(told(set.left_response(number)), (Reason::Number, number));
         assert_eq!(told(set.right_response(number)), (Reason::Number, number));
         assert_eq!(told(set.neighbors_of(number)), (Reason::Number, number));
+        assert_eq!(told(set.position(number)), (Reason::Number, number));
     }
 }
 
 #[test]
 fn reason_9_a_link() {
-    let index = given().load().unwrap().index().clone();
+    let index = given().load().unwrap().into_index();
     let bad: [fn(&mut Index); 3] = [|i| i.left[0] = 0, |i| i.right[0] = 2, |i| i.neighbours[..12].fill(2)];
     for (which, spoil) in bad.iter().enumerate() {
         let mut index = index.clone();
         spoil(&mut index);
-        let set: Slices = Set::with_index(SIZES, index, &RESPONSES, &[], 48000.0);
+        let set: Slices = Set::with_index(described(), index, &RESPONSES, []);
         let (mut left, mut right) = ([9.0; 2], [9.0; 1]);
         let mut at = [4.0, 3.0, 0.0];
         assert_eq!(told(set.filter(at, &mut left, &mut right)), (Reason::Link, 0));
@@ -244,6 +245,19 @@ fn refusals_in_words() {
     assert_eq!(boxed.to_string(), "the rate is not allowed: 1000 to 384000 (refusal 6, place 0)");
 }
 
+/// Every number is a reason, one that has no name too; 0 is none.
+#[test]
+fn numbers_are_reasons() {
+    assert_eq!(Reason::of(0), None);
+    for number in (1..=300).chain([u32::MAX]) {
+        let reason = Reason::of(number).unwrap();
+        assert_eq!(reason.number(), number);
+        assert_eq!(matches!(reason, Reason::Unknown { .. }), number > 9);
+    }
+    let newer = Refusal { reason: Reason::of(4711).unwrap(), place: 3 };
+    assert_eq!(newer.to_string(), "a reason that this version has no words for (refusal 4711, place 3)");
+}
+
 /// 16384 measurements on a sphere are loaded; 16385 are refused. They come in no order, so that the tree is not deep.
 #[test]
 fn the_greatest_set() {
@@ -252,13 +266,14 @@ fn the_greatest_set() {
         (0..m).flat_map(|i| at(i * 7919 % m)).collect()
     };
     for m in [16384, 16385] {
-        let loaded = Given { kind: Kind::SPHERICAL, sizes: Sizes { m, c: 3, r: 2, n: 0 }, positions: sphere(m), responses: &[], ..given() }.load();
+        let many = Description { kind: Kind::SPHERICAL, m, n: 0, ..described() };
+        let loaded = Given { described: many, positions: sphere(m), responses: &[] }.load();
         if m == 16385 {
             assert_eq!(told(loaded), (Reason::Sizes, 0));
             continue;
         }
         let set = loaded.unwrap();
-        let at = |k: usize| [set.index().cartesian[3 * k], set.index().cartesian[3 * k + 1], set.index().cartesian[3 * k + 2]];
+        let at = |number: usize| set.position(number).unwrap();
         assert_eq!((set.find(at(0)), set.find(at(m - 1))), (Ok(0), Ok(16383)));
     }
 }

@@ -1,18 +1,27 @@
+// SPDX-License-Identifier: MIT OR Apache-2.0
 //! Known answers: a load, a blended, an exact and a refused query, and the calls by number.
-use sofa::{Delays, Filtered, Kind, Neighbors, Reason, Seconds, Set, Sizes, Tree};
+use sofa::{Delays, Description, Filtered, Kind, Neighbors, Reason, Refusal, Seconds, Set, Tree};
 use std::sync::Arc;
 
-const SIZES: Sizes = Sizes { m: 2, c: 3, r: 2, n: 1 };
 const POSITIONS: [f32; 6] = [1.0, 0.0, 0.0, -1.0, 0.0, 0.0];
-const RESPONSES: [f32; 4] = [0.5, 0.25, 1.0, 0.0];
+static RESPONSES: [f32; 4] = [0.5, 0.25, 1.0, 0.0];
 const DELAYS: [f32; 2] = [375.0, 0.0];
 
+fn described(kind: Kind, m: usize, n: usize) -> Description {
+    Description { kind, m, n, rate: 48000.0, ..Description::default() }
+}
+
 fn two() -> Set<&'static [f32]> {
-    Set::load(Kind::CARTESIAN, SIZES, &POSITIONS, &RESPONSES[..], &DELAYS[..], 0.5, 0.01, 48000.0).unwrap()
+    Set::load(described(Kind::CARTESIAN, 2, 1), &POSITIONS, &RESPONSES[..], &DELAYS[..]).unwrap()
 }
 
 fn both(seconds: f32) -> Delays {
     Delays { left: Seconds(seconds), right: Seconds(seconds) }
+}
+
+/// Whether it is exact, its points, its delays.
+fn parts(told: Result<Filtered, Refusal>) -> Result<(bool, usize, Delays), Refusal> {
+    told.map(|f| (f.is_exact(), f.points(), f.delays()))
 }
 
 /// The worked case of document 01's query program.
@@ -20,7 +29,7 @@ fn both(seconds: f32) -> Delays {
 fn a_blended_query() {
     let (mut left, mut right) = ([9.0; 1], [9.0; 1]);
     let told = two().filter([2.0, 0.0, 0.0], &mut left, &mut right);
-    assert_eq!(told, Ok(Filtered::Blended(both(0.0078125), 1)));
+    assert_eq!(parts(told), Ok((false, 1, both(0.0078125))));
     assert_eq!((left, right), ([0.5], [0.25]));
 }
 
@@ -28,7 +37,7 @@ fn a_blended_query() {
 fn an_exact_query() {
     let (mut left, mut right) = ([9.0; 3], [9.0; 0]);
     let told = two().filter([-1.0, 0.0, 0.0], &mut left, &mut right);
-    assert_eq!(told, Ok(Filtered::Exact(both(0.0))));
+    assert_eq!(parts(told), Ok((true, 1, both(0.0))));
     assert_eq!(left, [1.0, 0.0, 0.0]);
 }
 
@@ -43,10 +52,10 @@ fn a_refused_query() {
 /// Three points a quarter of a turn apart: the query between them is a blend of two, half and half.
 #[test]
 fn a_blend_of_two() {
-    let sizes = Sizes { m: 3, c: 3, r: 2, n: 2 };
+    let wide = Description { angle_step: 45.0, radius_step: 1.0, ..described(Kind::SPHERICAL, 3, 2) };
     let positions = [0.0, 0.0, 1.0, 45.0, 0.0, 1.0, 90.0, 0.0, 1.0];
     let responses = vec![0.0, 1.0, 2.0, 3.0, 8.0, 9.0, 10.0, 11.0, 0.0, 0.0, 0.0, 0.0];
-    let set = Set::load(Kind::SPHERICAL, sizes, &positions, responses, vec![], 45.0, 1.0, 48000.0).unwrap();
+    let set = Set::load(wide, &positions, responses, vec![]).unwrap();
     let mut middle = [22.5, 0.0, 1.0];
     sofa::to_cartesian(&mut middle).unwrap();
     let (mut left, mut right) = ([9.0; 2], [9.0; 2]);
@@ -54,8 +63,8 @@ fn a_blend_of_two() {
     assert_eq!((told.points(), told.delays()), (2, both(0.0)));
     let near = |a: f32, b: f32| (a - b).abs() < 1e-4;
     assert!(near(left[0], 4.0) && near(left[1], 5.0) && near(right[0], 6.0) && near(right[1], 7.0), "{left:?} {right:?}");
-    let plain = set.filter_nointerp(middle, &mut left, &mut right).unwrap();
-    assert_eq!(plain, Filtered::Exact(both(0.0)));
+    let plain = set.filter_nointerp(middle, &mut left, &mut right);
+    assert_eq!(parts(plain), Ok((true, 1, both(0.0))));
     assert!(left == [0.0, 1.0] || left == [8.0, 9.0]);
 }
 
@@ -78,7 +87,7 @@ fn responses_are_views() {
     assert_eq!(set.left_response(1), Ok(&RESPONSES[2..3]));
     assert_eq!(set.right_response(1).unwrap().as_ptr(), RESPONSES[3..].as_ptr());
     let shared: Arc<[f32]> = Arc::from(&RESPONSES[..]);
-    let owner = Set::load(Kind::CARTESIAN, SIZES, &POSITIONS, shared.clone(), Arc::from(&DELAYS[..]), 0.5, 0.01, 48000.0).unwrap();
+    let owner = Set::load(described(Kind::CARTESIAN, 2, 1), &POSITIONS, shared.clone(), DELAYS.to_vec()).unwrap();
     assert_eq!(owner.left_response(0).unwrap().as_ptr(), shared.as_ptr());
     assert_eq!(owner.left_response(2).unwrap_err().to_string(), "there is no measurement of this number (refusal 8, place 2)");
 }
@@ -87,31 +96,69 @@ fn responses_are_views() {
 fn by_number() {
     let set = two();
     let (mut left, mut right) = ([9.0; 1], [9.0; 1]);
-    assert_eq!(set.filter_number(0, &mut left, &mut right), Ok(Filtered::Exact(both(0.0078125))));
+    assert_eq!(parts(set.filter_number(0, &mut left, &mut right)), Ok((true, 1, both(0.0078125))));
     assert_eq!((left, right), ([0.5], [0.25]));
     assert_eq!(set.max_delay(), Ok(Seconds(0.0078125)));
     let alone = Neighbors { phi_plus: None, phi_minus: None, theta_plus: None, theta_minus: None, radius_plus: None, radius_minus: None };
     assert_eq!(set.neighbors_of(0), Ok(alone));
-    let circle = Set::load(
-        Kind::SPHERICAL,
-        Sizes { m: 3, n: 0, ..SIZES },
-        &[0.0, 0.0, 1.0, 40.0, 0.0, 1.0, 320.0, 0.0, 1.0],
-        vec![],
-        vec![],
-        5.0,
-        0.01,
-        48000.0,
-    )
-    .unwrap();
+    let wide = Description { angle_step: 5.0, ..described(Kind::SPHERICAL, 3, 0) };
+    let circle = Set::load(wide, &[0.0, 0.0, 1.0, 40.0, 0.0, 1.0, 320.0, 0.0, 1.0], [], []).unwrap();
     let around = circle.neighbors_of(0).unwrap();
     assert_eq!((around.phi_plus, around.phi_minus, around.radius_plus), (Some(1), Some(2), None));
+}
+
+/// What one call answers as a number the others take.
+#[test]
+fn one_type_of_number() {
+    let wide = Description { angle_step: 5.0, ..described(Kind::SPHERICAL, 3, 1) };
+    let circle = Set::load(wide, &[0.0, 0.0, 1.0, 40.0, 0.0, 1.0, 320.0, 0.0, 1.0], [0.0, 1.0, 2.0, 3.0, 4.0, 5.0], []).unwrap();
+    let mut at = [3.0, 0.1, 0.0];
+    let nearest = circle.find(at).unwrap();
+    assert_eq!(circle.find_mut(&mut at), Ok(nearest));
+    let beside = circle.neighbors_of(nearest).unwrap().phi_minus.unwrap();
+    assert_eq!((nearest, beside), (0, 2));
+    assert_eq!((circle.left_response(beside), circle.right_response(beside)), (Ok(&[4.0][..]), Ok(&[5.0][..])));
+    assert_eq!(circle.position(nearest), Ok([1.0, 0.0, 0.0]));
+    assert_eq!(circle.find(circle.position(beside).unwrap()), Ok(beside));
+    assert!(circle.filter_number(beside, &mut [0.0], &mut [0.0]).is_ok());
+}
+
+/// Responses and delays may be kept in two ways, and are handed back as they were given.
+#[test]
+fn what_a_set_was_given() {
+    let borrowed: Set<&[f32], Vec<f32>> = Set::load(described(Kind::CARTESIAN, 2, 1), &POSITIONS, &RESPONSES[..], DELAYS.to_vec()).unwrap();
+    assert_eq!((borrowed.responses().as_ptr(), borrowed.responses().len()), (RESPONSES.as_ptr(), 4));
+    assert_eq!((borrowed.delays(), borrowed.rate()), (&DELAYS[..], 48000.0));
+    let boxed = Set::load(described(Kind::CARTESIAN, 2, 1), &POSITIONS, Box::<[f32]>::from(RESPONSES), []).unwrap();
+    assert_eq!((boxed.delays(), boxed.max_delay()), (&[][..], Ok(Seconds(0.0))));
+    assert_eq!((boxed.position(0), boxed.position(1)), (Ok([1.0, 0.0, 0.0]), Ok([-1.0, 0.0, 0.0])));
+    assert_eq!(boxed.description(), described(Kind::CARTESIAN, 2, 1));
+}
+
+/// The steps are the source's, the receivers two; what has to be given is refused where it is not.
+#[test]
+fn what_is_not_described() {
+    let given = described(Kind::CARTESIAN, 2, 1);
+    assert_eq!((given.r, given.angle_step, given.radius_step), (2, 0.5, 0.01));
+    let none = Description::default();
+    let without = [
+        (Reason::Kind, 255, Description { kind: none.kind, ..given }),
+        (Reason::Sizes, 0, Description { m: none.m, ..given }),
+        (Reason::Sizes, 0, Description { n: none.n, ..given }),
+        (Reason::Rate, 0, Description { rate: none.rate, ..given }),
+    ];
+    assert!(Set::load(given, &POSITIONS, RESPONSES, DELAYS).is_ok());
+    for (reason, place, described) in without {
+        assert_eq!(Set::load(described, &POSITIONS, RESPONSES, DELAYS).unwrap_err(), Refusal { reason, place });
+    }
 }
 
 /// A kept index stands for the load.
 #[test]
 fn an_index_can_be_kept() {
     let set = two();
-    let again = Set::with_index(set.sizes(), set.index().clone(), &RESPONSES[..], &DELAYS[..], 48000.0);
+    let again = Set::with_index(set.description(), set.clone().into_index(), RESPONSES, DELAYS);
+    assert_eq!(again.index(), set.index());
     let (mut a, mut b, mut c, mut d) = ([0.0; 1], [0.0; 1], [0.0; 1], [0.0; 1]);
     for at in [[2.0, 0.0, 0.0], [0.0, 0.25, -3.0], [-1.0, 0.0, 0.0]] {
         assert_eq!(set.filter(at, &mut a, &mut b), again.filter(at, &mut c, &mut d));
@@ -124,9 +171,9 @@ fn an_index_can_be_kept() {
 fn sets_are_shared_between_threads() {
     let set = two();
     std::thread::scope(|scope| {
-        for number in 0..2u16 {
+        for (number, x) in [1.0, -1.0].into_iter().enumerate() {
             let set = &set;
-            scope.spawn(move || assert_eq!(set.find([1.0 - 2.0 * f32::from(number), 0.0, 0.0]), Ok(number)));
+            scope.spawn(move || assert_eq!(set.find([x, 0.0, 0.0]), Ok(number)));
         }
     });
 }
