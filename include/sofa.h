@@ -48,9 +48,9 @@
  *            call of fmodf (in a conversion or a load) and of memset (in a filter): 3.1 KiB were measured with glibc 2.36 on a processor
  *            with AVX-512, whose registers it puts there. Link with -z now, or count it, or make one such call on a roomier stack first.
  *
- * The archive, libsofa.a (bin/archive), is for Linux on x86-64 or on 64-bit Arm, any processor of the kind, and can stand in a shared library. It needs the C
- * library's memset and fmodf, so link -lm behind it, and nothing else. A shared library that should not hand these names on, a plug-in
- * for one, of which a process may hold two, is linked with -Wl,--exclude-libs,ALL (GNU ld and lld).
+ * The archive, libsofa.a (bin/archive), is for Linux on x86-64 or on 64-bit Arm, any processor of the kind, and can stand in a shared
+ * library. It needs the C library's memset and fmodf, so link -lm behind it, and nothing else. A shared library that should not hand
+ * these names on, a plug-in for one, of which a process may hold two, is linked with -Wl,--exclude-libs,ALL (GNU ld and lld).
  *
  * Time (docs/SPEED.md): a find takes 0.5 to 2 microseconds, a filter of 512 taps 1 to 4. A load with steps 0.5 and 0.01 takes 6 ms for
  * 1000 measurements at random on a sphere, 90 ms for 16384, and up to five times as long on a grid. What makes it longer is order: a set
