@@ -9,6 +9,7 @@ use mathlib.Core.Bool.{Bool, true, false, _&&_}
 use lib.Dec.{T}
 use lib.Ieee.{Float, nan, binary32, round, neg, mul, le, lt, eq}
 use lib.Ieee.Fits.{mul-fits}
+use Rattle.floats.specs.Floats.{zero32}
 use Rattle.floats.proofs.Preorder.{le-trans-f}
 use Rattle.points.specs.declared.Point3.{Point3}
 use Rattle.limits.specs.Allowed.{nearest, between, within, radiusOk, cartesianOk, positionOk}
@@ -62,9 +63,14 @@ both true true p q = refl
 both true false p q = absurd q
 both false b p q = absurd p
 
-small-within : (x : Float) → Small b2 x → within 10001 1 x ≡ true
-unfolding within between round neg le lt eq
-small-within x h = let s = small-between b2 x tt tt h in both (le (neg b2) x) (le x b2) (s .0) (s .1)
+-- a size at most b, for an end b that is no less than zero
+pub small-within : (a b : ℕ) (x : Float) → T (le (neg zero32) (nearest a b)) → T (le (neg (nearest a b)) zero32) → Small (nearest a b) x → within a b x ≡ true
+unfolding within between
+small-within a b x l k h = let s = small-between (nearest a b) x l k h in both (le (neg (nearest a b)) x) (le x (nearest a b)) (s .0) (s .1)
+
+small-inside : (x : Float) → Small b2 x → within 10001 1 x ≡ true
+unfolding round neg le lt eq
+small-inside x h = small-within 10001 1 x tt tt h
 
 pub inside : (s : Spherical) → radiusOk (s .radius) ≡ true → Inside (cartesianOf s)
 unfolding cartesianOf alongOf turnOf
@@ -74,9 +80,9 @@ inside s e =
     let theta = mul binary32 (s .elevation) perDegree in
     let flat = once _ _ (cos-small theta (mul-fits binary32 (s .elevation) perDegree)) r in
     record {
-      x = small-within _ (again _ _ (cos-small phi (mul-fits binary32 (s .azimuth) perDegree)) flat);
-      y = small-within _ (again _ _ (sin-small phi (mul-fits binary32 (s .azimuth) perDegree)) flat);
-      z = small-within _ (wider _ (once _ _ (sin-small theta (mul-fits binary32 (s .elevation) perDegree)) r));
+      x = small-inside _ (again _ _ (cos-small phi (mul-fits binary32 (s .azimuth) perDegree)) flat);
+      y = small-inside _ (again _ _ (sin-small phi (mul-fits binary32 (s .azimuth) perDegree)) flat);
+      z = small-inside _ (wider _ (once _ _ (sin-small theta (mul-fits binary32 (s .elevation) perDegree)) r));
     }
 
 -- ---- lists: every position value was allowed
