@@ -20,7 +20,7 @@ use Rattle.coords.specs.Coords.{perDegree, turnOf, alongOf, cartesianOf}
 use Rattle.coords.specs.Arrays.{turned, lifted, byTriplets}
 use Rattle.coords.proofs.Places.{changed-at}
 use Rattle.points.specs.Points.{pointAt}
-use Rattle.coord_laws.proofs.Size.{bare, Small, small-mul, small-between, between-small}
+use Rattle.coord_laws.proofs.Size.{Small, small-wider, small-mul, small-between, between-small}
 use Rattle.coord_laws.proofs.Turns.{rim, sin-small, cos-small}
 
 -- each coordinate has magnitude at most 10001
@@ -56,7 +56,7 @@ again c h hc hh = small-mul binary32 rim b1 b2 c h tt tt tt tt hc hh
 
 wider : (z : Float) → Small b1 z → Small b2 z
 unfolding round le lt eq
-wider z h = record { held = h .held; most = le-trans-f (bare z) b1 b2 (h .most) tt }
+wider z h = small-wider b1 b2 z tt h
 
 both : (a b : Bool) → T a → T b → (a && b) ≡ true
 both true true p q = refl

@@ -67,6 +67,15 @@ bare-finite (inf s) (inf t) p h = p
 bare-finite (inf s) (fin t n d) p h = h
 bare-finite (fin s m e) b p h = tt
 
+pub small-wider : (a b x : Float) → T (le a b) → Small a x → Small b x
+small-wider a b x l h = record { held = h .held; most = le-trans-f (bare x) a b (h .most) l }
+
+-- a fraction at most a value that fits, rounded
+pub small-round : (f : Format) (s : Bool) (a c m : ℕ) (e : ℤ) → 0 < c → T (fits f (fin false m e)) → a * down e ≤ m * up e * c → Small (fin false m e) (round f s a c)
+small-round f s a c m e C w h =
+    let bound : T (le (bare (round f s a c)) (fin false m e)) = subst (λ (z : Float). T (le z (fin false m e))) (sym (bare-round f s a c)) (round-le f a c m e C w h) in
+    record { held = bare-finite (round f s a c) (fin false m e) tt bound; most = bound }
+
 -- a product is at most the bounds' product, and at most what that is at most
 pub small-mul : (f : Format) (a b c x y : Float) → T (magnitude a) → T (magnitude b) → T (magnitude c) → T (le (mul f a b) c) → Small a x → Small b y → Small c (mul f x y)
 small-mul f a b c x y p q r l hx hy =
@@ -122,15 +131,9 @@ small-add f a b c x y p q r l hx hy =
 
 -- ---- remainders
 
--- r / (e · d), with r below n · e: at most n / d
-rest-small : (f : Format) (s : Bool) (r n : ℕ) (e d : ℤ) → T (fits f (fin false n d)) → r < n * up d * down e → Small (fin false n d) (round f s r (down e * down d))
-rest-small f s r n e d w h =
-    let bound : T (le (bare (round f s r (down e * down d))) (fin false n d)) = subst (λ (z : Float). T (le z (fin false n d))) (sym (bare-round f s r (down e * down d)))
-    (round-le f r (down e * down d) n d (mul-pos (down-pos e) (down-pos d)) w (spread r (n * up d) (down e) (down d) h)) in
-    record { held = bare-finite (round f s r (down e * down d)) (fin false n d) tt bound; most = bound }
-  where
-    spread : (r a b c : ℕ) → r < a * b → r * c ≤ a * (b * c)
-    spread r a b c h = let k : r * c ≤ a * b * c = mul-le-mul-right c (le-of-lt h) in omega arith
+-- r / (e · d), with r below n · e, is at most n / d
+spread : (r a b c : ℕ) → r < a * b → r * c ≤ a * (b * c)
+spread r a b c h = let k : r * c ≤ a * b * c = mul-le-mul-right c (le-of-lt h) in omega arith
 
 -- a remainder is at most what it is divided by
 pub small-rem : (f : Format) (x y : Float) → T (finite x) → T (positive y) → T (fits f y) → Small y (rem f x y)
@@ -142,7 +145,8 @@ small-rem f (fin s m e) (inf t) p q w = absurd q
 small-rem f (fin s m e) (fin true n d) p q w = absurd q
 small-rem f (fin s m e) (fin false n d) p q w =
     let some = ltb→lt 0 n q in
-    rw (ne-eqb n 0 (λ z. omega arith)) (rest-small f s (m * up e * down d % (n * up d * down e)) n e d w (mod-lt (m * up e * down d) (mul-pos (mul-pos some (up-pos d)) (down-pos e))))
+    let under = mod-lt (m * up e * down d) (mul-pos (mul-pos some (up-pos d)) (down-pos e)) in
+    rw (ne-eqb n 0 (λ z. omega arith)) (small-round f s (m * up e * down d % (n * up d * down e)) (down e * down d) n d (mul-pos (down-pos e) (down-pos d)) w (spread _ (n * up d) (down e) (down d) under))
 
 -- ---- between -b and b
 pub small-between : (b x : Float) → T (le (neg zero32) b) → T (le (neg b) zero32) → Small b x → T (le (neg b) x) × T (le x b)
