@@ -40,7 +40,7 @@ use Rattle.coords.specs.Coords.{perDegree, perRadian, full32, turnOf, flatOf, s
 use Rattle.coords.specs.Arrays.{lifted}
 use Rattle.coord_laws.specs.Answered.{radians, TurnAnswered, ArcAnswered, ToCartesian, ToSpherical}
 use Rattle.coord_laws.proofs.Size.{Small, small-mul, small-add, small-rem, small-between, between-small}
-use Rattle.coord_laws.proofs.Inside.{Inside, copied-inside}
+use Rattle.coord_laws.proofs.Inside.{Inside, list-copied}
 
 -- a test that holds takes the first way
 first : {A : Type 0} (b : Bool) (x y : A) → T b → cond b x y ≡ x
@@ -189,21 +189,10 @@ triplet-answered xs n ok place h = record {
   elevation = turn-answered _ (angle-small _ (angle-at (3 * place + 1) _ (λ z. omega arith) (ok (3 * place + 1) (omega arith))));
 }
 
-copied-at : (xs : List Float) (n : ℕ) → Allowed 0 xs n → (i : ℕ) → i < n → limits.within 10001 1 (getD xs i nan) ≡ true
-copied-at xs n ok i h = copied-inside (getD xs i nan) (unfold positionOk in ok i h)
-
-pub copied-answered : (xs : List Float) (n : ℕ) → Allowed 0 xs n → (place : ℕ) → 3 * place + 2 < n → Inside (pointAt xs place)
-unfolding pointAt
-copied-answered xs n ok place h = record {
-  x = copied-at xs n ok (3 * place) (omega arith);
-  y = copied-at xs n ok (3 * place + 1) (omega arith);
-  z = copied-at xs n ok (3 * place + 2) h;
-}
-
 -- EVERY CONVERSION TO CARTESIAN THAT IS NOT REFUSED
 pub to-cartesian-answered : (xs : List Float) → verdictOf (valueLines 1 xs) ≡ Fine → (place : ℕ) → 3 * place + 2 < triplets xs → ToCartesian (lifted (pointAt xs place))
 to-cartesian-answered xs fine = triplet-answered xs (triplets xs) (values-passed 1 xs fine)
 
 -- EVERY CONVERSION TO SPHERICAL THAT IS NOT REFUSED
 pub to-spherical-answered : (xs : List Float) → verdictOf (valueLines 0 xs) ≡ Fine → (place : ℕ) → 3 * place + 2 < triplets xs → ToSpherical (pointAt xs place)
-to-spherical-answered xs fine place h = spherical-answered (pointAt xs place) (copied-answered xs (triplets xs) (values-passed 0 xs fine) place h)
+to-spherical-answered xs fine place h = spherical-answered (pointAt xs place) (list-copied xs (triplets xs) (values-passed 0 xs fine) place h)

@@ -102,7 +102,19 @@ list-inside xs ok place h =
     last e = unfold pointAt in e
 
 -- a Cartesian value, copied
-pub copied-inside : (x : Float) → cartesianOk x ≡ true → within 10001 1 x ≡ true
+copied-inside : (x : Float) → cartesianOk x ≡ true → within 10001 1 x ≡ true
 unfolding cartesianOk within between round neg le lt eq
 copied-inside x e =
     both (le (neg b2) x) (le x b2) (le-trans-f (neg b2) (neg b0) x tt (between-low (neg b0) b0 x e)) (le-trans-f x b0 b2 (between-high (neg b0) b0 x e) tt)
+
+copied-at : (xs : List Float) (n : ℕ) → Allowed 0 xs n → (i : ℕ) → i < n → within 10001 1 (getD xs i nan) ≡ true
+copied-at xs n ok i h = copied-inside (getD xs i nan) (unfold positionOk in ok i h)
+
+-- a list of Cartesian positions
+pub list-copied : (xs : List Float) (n : ℕ) → Allowed 0 xs n → (place : ℕ) → 3 * place + 2 < n → Inside (pointAt xs place)
+unfolding pointAt
+list-copied xs n ok place h = record {
+  x = copied-at xs n ok (3 * place) (omega arith);
+  y = copied-at xs n ok (3 * place + 1) (omega arith);
+  z = copied-at xs n ok (3 * place + 2) h;
+}

@@ -237,15 +237,16 @@ accepted g fine = subst (λ (l : Load). l .answer ≡ Ready (set.look (setIn g (
     here : after.done g .answer ≡ Ready (set.look (setIn g (after.done g .work)))
     here = unfold indexed in refl
 
+pub accepted-fine : (g : Given) (look : Lookup) → loaded g .answer ≡ Ready look → judged g ≡ Fine
+unfolding loadOf
+accepted-fine g look e = ready-fine (judged g) (after.done g) (g .work) look e
+
 -- DEMAND 2: whatever `load` answers Ready to, what it left and what later calls answer is the source's
 pub from-load : (g : Given) (look : Lookup) → loaded g .answer ≡ Ready look → LoadsAsSource g (loaded g .work) look
 from-load g look e =
-    let fine : judged g ≡ Fine = asked in
+    let fine = accepted-fine g look e in
     let el : set.look (setIn g (loaded g .work)) ≡ look = ready (accepted g fine) in
     subst (LoadsAsSource g (loaded g .work)) el (subst (λ (l : Load). LoadsAsSource g (l .work) (set.look (setIn g (l .work)))) (sym (says g fine)) (as-source g fine))
   where
-    asked : judged g ≡ Fine
-    asked = unfold loadOf in ready-fine (judged g) (after.done g) (g .work) look e
-
     ready : {l : Lookup} → loaded g .answer ≡ Ready l → l ≡ look
     ready h = cc
