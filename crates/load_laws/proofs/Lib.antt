@@ -4,3 +4,4 @@ pub mod Checks
 pub mod Load
 pub mod Domain
 pub mod Angles
+pub mod Any

@@ -55,7 +55,7 @@ within-finite : (x : Float) → within 10001 1 x ≡ true → T (finite x)
 unfolding within round neg
 within-finite x e = between-finite (neg (nearest 10001 1)) (nearest 10001 1) x tt tt e
 
-one-of : (k : ℕ) → kindOk (suc k) ≡ true → k ≡ 0
+pub one-of : (k : ℕ) → kindOk (suc k) ≡ true → k ≡ 0
 unfolding kindOk
 one-of k e = let z = eqb-true (suc k) 1 (rw (ne-eqb (suc k) 0 (λ z. omega arith)) at e) in omega arith
 
