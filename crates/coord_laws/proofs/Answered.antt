@@ -7,13 +7,12 @@ use mathlib.Core.Bool.{Bool, true, false, cond, _&&_}
 use native.Mathlib.Omega.{arith}
 use borrow.Author.Tests.{ne-eqb}
 use lib.Dec.{T, lt→ltb}
-use lib.IntN.{ℤ, pos, negsuc}
-use lib.ListN.{length, getD}
-use lib.Ieee.{Float, nan, inf, fin, binary32, up, down, round, neg, add, mul, div, rem, le, lt, eq, fits, ofBits}
+use lib.IntN.{ℤ}
+use lib.Ieee.{Float, nan, inf, fin, binary32, round, neg, add, mul, div, le, lt, eq, fits, ofBits}
 use lib.Ieee.Fits.{and-i, mul-fits, add-fits}
 use lib.Ieee.Positive.{positive, positive-finite}
 use lib.Ieee.Scale.{finite}
-use Rattle.floats.proofs.Cross.{of-taken, cross→le}
+use Rattle.floats.proofs.Cross.{cross→le}
 use Rattle.floats.proofs.Sign.{nonneg}
 use Rattle.floats.proofs.Ops.{finite-number, sq-nonneg, add-nonneg}
 use Rattle.points.specs.declared.Point3.{Point3}
@@ -21,7 +20,6 @@ use Rattle.points.specs.Points.{pointAt}
 use Rattle.root.specs.Root.{rootOf}
 use Rattle.root.proofs.Laws.{rootOf-positive}
 use Rattle.sines.specs.Sines.{plusZero, sixteen, inRange, sineSteps, cosineSteps}
-use Rattle.angles.specs.declared.Answer.{Answer}
 use Rattle.angles.specs.declared.Answer.the-variants.{Value, Refused}
 use Rattle.angles.specs.Arc.{pi32, arctanSteps}
 use Rattle.angles.specs.Says.{sinOf, cosOf, atan2Of, sineSays, cosineSays, arctanSays}
@@ -29,16 +27,14 @@ use Rattle.angle_laws.specs.Angle.{S, C, within}
 use Rattle.angle_laws.specs.Asked.{IsArc, Arctan}
 use Rattle.angle_laws.proofs.Near.{sine-near, cosine-near}
 use Rattle.angle_laws.proofs.Zero.{arctan-good}
-use Rattle.limits.specs.declared.Verdict.the-variants.{Fine}
 use Rattle.limits.specs.Allowed as limits
 use Rattle.limits.specs.Allowed.{nearest, angleOk, positionOk}
-use Rattle.limits.specs.Refusals.{verdictOf, valueLines, triplets}
+use Rattle.limits.specs.Refusals.{triplets}
 use Rattle.limits.proofs.Passed.{Allowed, values-passed}
 use Rattle.limits.proofs.Ends.{between-low, between-high, between-finite, angle-finite}
-use Rattle.coords.specs.declared.Spherical.{Spherical}
 use Rattle.coords.specs.Coords.{perDegree, perRadian, full32, turnOf, flatOf, sphericalOf}
 use Rattle.coords.specs.Arrays.{lifted}
-use Rattle.coord_laws.specs.Answered.{radians, TurnAnswered, ArcAnswered, ToCartesian, ToSpherical}
+use Rattle.coord_laws.specs.Answered.{radians, TurnAnswered, ArcAnswered, ToCartesian, ToSpherical, ConversionsAnswered}
 use Rattle.coord_laws.proofs.Size.{Small, small-mul, small-add, small-rem, small-between, between-small}
 use Rattle.coord_laws.proofs.Inside.{Inside, list-copied}
 
@@ -189,10 +185,9 @@ triplet-answered xs n ok place h = record {
   elevation = turn-answered _ (angle-small _ (angle-at (3 * place + 1) _ (λ z. omega arith) (ok (3 * place + 1) (omega arith))));
 }
 
--- EVERY CONVERSION TO CARTESIAN THAT IS NOT REFUSED
-pub to-cartesian-answered : (xs : List Float) → verdictOf (valueLines 1 xs) ≡ Fine → (place : ℕ) → 3 * place + 2 < triplets xs → ToCartesian (lifted (pointAt xs place))
-to-cartesian-answered xs fine = triplet-answered xs (triplets xs) (values-passed 1 xs fine)
-
--- EVERY CONVERSION TO SPHERICAL THAT IS NOT REFUSED
-pub to-spherical-answered : (xs : List Float) → verdictOf (valueLines 0 xs) ≡ Fine → (place : ℕ) → 3 * place + 2 < triplets xs → ToSpherical (pointAt xs place)
-to-spherical-answered xs fine place h = spherical-answered (pointAt xs place) (list-copied xs (triplets xs) (values-passed 0 xs fine) place h)
+-- EVERY CONVERSION THAT IS NOT REFUSED
+pub conversions-answered : ConversionsAnswered
+conversions-answered = record {
+  to-cartesian = λ xs fine place h. triplet-answered xs (triplets xs) (values-passed 1 xs fine) place (omega arith);
+  to-spherical = λ xs fine place h. spherical-answered (pointAt xs place) (list-copied xs (triplets xs) (values-passed 0 xs fine) place (omega arith));
+}

@@ -1,19 +1,26 @@
--- That a conversion's angles lie where `sine`, `cosine` and `arctangent` answer. Definitions only; the theorems are in proofs/Answered.antt.
+-- That a conversion's angles lie where `sine`, `cosine` and `arctangent` answer. Definitions only; the theorem `conversions-answered` is in proofs/Answered.antt.
 -- The conversions go by `sinOf`, `cosOf` and `atan2Of`, which give +0 where those calls refuse: here no +0 of theirs stands for a refusal.
 use mathlib.Core.Path.{_≡_}
 use mathlib.Core.Bool.{_&&_}
+use mathlib.Core.List.{List}
+use Prim.Native.Nat.{ℕ, _+_, _*_, _<_}
 use lib.Dec.{T}
+use lib.ListN.{length}
 use lib.Ieee.{Float, binary32, mul}
 use lib.Ieee.Scale.{finite}
 use Rattle.points.specs.declared.Point3.{Point3}
+use Rattle.points.specs.Points.{pointAt}
 use Rattle.root.specs.Root.{rootOf}
 use Rattle.sines.specs.Sines.{inRange}
 use Rattle.angles.specs.declared.Answer.the-variants.{Value}
 use Rattle.angles.specs.Says.{atan2Of, sineSays, cosineSays, arctanSays}
 use Rattle.angle_laws.specs.Angle.{S, C, within}
 use Rattle.angle_laws.specs.Asked.{Arctan}
+use Rattle.limits.specs.declared.Verdict.the-variants.{Fine}
+use Rattle.limits.specs.Refusals.{verdictOf, valueLines}
 use Rattle.coords.specs.declared.Spherical.{Spherical}
 use Rattle.coords.specs.Coords.{perDegree, turnOf, flatOf}
+use Rattle.coords.specs.Arrays.{lifted}
 
 -- an angle in degrees as sine and cosine are handed it
 abbrev pub radians : Float → Float
@@ -42,3 +49,8 @@ pub record ToCartesian (s : Spherical) : Type 0 where
 pub record ToSpherical (p : Point3) : Type 0 where
   pub azimuth : ArcAnswered (p .y) (p .x)
   pub elevation : ArcAnswered (p .z) (rootOf (flatOf p))
+
+-- of every list that a conversion accepts, each whole triplet
+pub record ConversionsAnswered : Type 0 where
+  pub to-cartesian : (xs : List Float) → verdictOf (valueLines 1 xs) ≡ Fine → (place : ℕ) → 3 * place + 2 < length xs → ToCartesian (lifted (pointAt xs place))
+  pub to-spherical : (xs : List Float) → verdictOf (valueLines 0 xs) ≡ Fine → (place : ℕ) → 3 * place + 2 < length xs → ToSpherical (pointAt xs place)

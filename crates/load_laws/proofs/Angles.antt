@@ -1,10 +1,8 @@
 -- NO ANGLE OF A LOAD IS REFUSED: whatever `load` answers Ready to, each use of an angle is one that `sine`, `cosine` and `arctangent` answer. Assumes nothing.
-use mathlib.Core.Path.{_≡_, refl, sym, subst}
-use mathlib.Core.List.{List}
+use mathlib.Core.Path.{_≡_, sym, subst}
 use Prim.Native.Nat.{ℕ, _+_, _*_, _<_}
 use native.Mathlib.Omega.{arith}
 use lib.ListN.{length}
-use lib.Ieee.{Float}
 use Rattle.points.specs.Points.{pointAt}
 use Rattle.limits.specs.declared.Verdict.the-variants.{Fine}
 use Rattle.limits.proofs.Passed.{Allowed}

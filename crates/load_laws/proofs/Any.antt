@@ -1,22 +1,27 @@
 -- WHAT THE SOURCE'S ANGLES GIVE WHERE DOCUMENT 01 REFUSES A CALL CHANGES NOTHING: with any functions that agree with `sine`, `cosine` and `arctangent` where those
 -- answer, the source converts and opens as with the port's. Assumes nothing.
 use mathlib.Core.Path.{_≡_, refl, sym, ap, _∙_, subst}
-use mathlib.Core.Bool.{Bool, cond, _||_, not, true, false}
+use mathlib.Core.Bool.{Bool, true, false, not, cond, _&&_, _||_}
 use mathlib.Core.List.{List, [], _∷_}
 use Prim.Native.Nat.{ℕ, zero, suc, _+_, _*_, _/_, _%_, _<_, _≤_}
 use native.Mathlib.Omega.{arith}
 use lib.Dec.{leb, eqb}
 use lib.ListN.{length, take, getD}
-use lib.Ieee.{Float, nan, binary32, add, sub, mul, div, rem, neg, lt, ofBits}
+use lib.Ieee.Scale.{finite}
+use lib.Ieee.{Float, nan, binary32, add, sub, mul, rem, neg, lt}
 use Rattle.floats.specs.Floats.{zero32, absOf, minOf, maxOf}
 use Rattle.points.specs.declared.Point3.{Point3}
 use Rattle.points.specs.Points.{pointAt}
 use Rattle.root.specs.Root.{rootOf}
 use Rattle.limits.specs.declared.Verdict.the-variants.{Fine}
 use Rattle.limits.specs.Allowed.{kindOk, cartesianOk, angleOk, radiusOk, positionOk, angleStepOk}
-use Rattle.limits.specs.Refusals.{verdictOf, valueLines, triplets}
+use Rattle.limits.specs.Refusals.{triplets}
 use Rattle.limits.proofs.Passed.{Allowed, values-passed}
 use Rattle.lookup.specs.declared.Lookup as port
+use Rattle.sines.specs.Sines.{plusZero, inRange, sineSteps, cosineSteps}
+use Rattle.angles.specs.declared.Answer.the-variants.{Value, Refused}
+use Rattle.angles.specs.Arc.{arctanSteps}
+use Rattle.angles.specs.Says.{sinOf, cosOf, atan2Of, sineSays, cosineSays, arctanSays}
 use Rattle.coords.specs.declared.Spherical.{Spherical}
 use Rattle.coords.specs.Coords.{full32, perRadian, turnOf, flatOf, sphericalOf}
 use Rattle.coords.specs.Arrays.{laid, lifted}
@@ -28,7 +33,7 @@ use Rattle.neighbor_laws.specs.Answered.{SearchAnswered}
 use Rattle.loads.specs.declared.Loaded.the-variants.{Ready}
 use Rattle.loads.specs.Load.{indexed}
 use Rattle.source.specs.Rust.{Option, None, Some, Angles, array}
-use Rattle.source.specs.Coords.{«cartesian_to_spherical», «spherical_to_cartesian», radius, «convert_array_to_spherical», «convert_array_to_cartesian»}
+use Rattle.source.specs.Coords.{«cartesian_to_spherical», «spherical_to_cartesian», «convert_array_to_spherical», «convert_array_to_cartesian»}
 use Rattle.source.specs.Kdtree.{insert, «is_empty»}
 use Rattle.source.specs.Lookup.{Hrtf, Lookup, find, triplet, unmeasured, measured, measuring, newLookup}
 use Rattle.source.specs.Hrtf.{«convert_array_to_cartesian_if_spherical», «convert_to_cartesian»}
@@ -45,8 +50,33 @@ use Rattle.load_laws.specs.Angles.{Agree, ConvertsWithAny, OpensWithAny}
 use Rattle.load_laws.proofs.Positions.{one-of}
 use Rattle.load_laws.proofs.Loaded.{done, cart, went}
 use Rattle.load_laws.proofs.Load.{converts, accepted-fine}
-use Rattle.load_laws.proofs.Domain.{accepts}
+use Rattle.load_laws.proofs.Domain.{accepts, demand-2}
 use Rattle.load_laws.proofs.Angles.{place-searched}
+
+-- ---- the port's own are such functions
+
+value-is : (s v : Float) → Value s ≡ Value v → s ≡ v
+value-is s v e = cc
+
+no-value : (n p : ℕ) (v : Float) → Refused n p ≡ Value v → ⊥
+no-value n p v e = let z : _≡_ {A = ℕ} 0 1 = cc in omega arith
+
+one-test : (b : Bool) (s v : Float) → cond b (Value s) (Refused 7 0) ≡ Value v → cond b s plusZero ≡ v
+one-test true s v e = value-is s v e
+one-test false s v e = absurd (no-value 7 0 v e)
+
+two-tests : (a b : Bool) (s v : Float) → cond a (cond b (Value s) (Refused 7 1)) (Refused 7 0) ≡ Value v → cond (a && b) s plusZero ≡ v
+two-tests true true s v e = value-is s v e
+two-tests true false s v e = absurd (no-value 7 1 v e)
+two-tests false b s v e = absurd (no-value 7 0 v e)
+
+pub ported-agree : Agree ported
+unfolding sinOf cosOf atan2Of sineSays cosineSays arctanSays
+ported-agree = record {
+  sin = λ x v. one-test (inRange x) (sineSteps x) v;
+  cos = λ x v. one-test (inRange x) (cosineSteps x) v;
+  atan2 = λ y x v. two-tests (finite y) (finite x) (arctanSteps y x) v;
+}
 
 -- ---- lists of whole triplets
 
@@ -260,6 +290,6 @@ module _ (platform : Angles) (A : Agree platform) where
   pub any-angles : (g : Given) (look : port.Lookup) → loaded g .answer ≡ Ready look → OpensWithAny platform g
   any-angles g look e = fine-opens g (accepted-fine g look e)
 
-  -- and so all of document 01's domain
-  pub any-domain : (g : Given) → Domain g → OpensWithAny platform g
-  any-domain g D = any-angles g _ (accepts g D)
+  -- DEMAND 2 WITH ANY OF THEM, for every input in document 01's domain: the set that the source opens is the one that `load` leaves (`demand-2`)
+  pub any-domain : (g : Given) (D : Domain g) → «open_data» platform (typeOf (g .kind)) (file g) (g .angle) (g .radius) ≡ Some (demand-2 g D .same .sofar)
+  any-domain g D = any-angles g _ (accepts g D) ∙ demand-2 g D .opens

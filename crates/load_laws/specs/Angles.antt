@@ -1,7 +1,7 @@
--- NO ANGLE OF A LOAD OR A CONVERSION IS REFUSED, on one page. Definitions only; the theorems `angles-answered` and `any-angles` are in proofs/Angles.antt and
--- proofs/Any.antt.
--- `sinOf`, `cosOf` and `atan2Of`, which the code goes by, give +0 where `sine`, `cosine` and `arctangent` refuse (7): beyond 16, or where an argument is not
--- finite. Said twice: of the port, each use of an angle is one that those calls answer; of the source, what its angle functions give elsewhere changes nothing.
+-- NO ANGLE OF A LOAD IS REFUSED, on one page (of the conversions by themselves: coord_laws, specs/Answered.antt). Definitions only; the theorems are
+-- `angles-answered` in proofs/Angles.antt, and `any-converts`, `any-angles` in proofs/Any.antt.
+-- `sin`, `cos` and `atan2`, which the code goes by, give +0 where `sine`, `cosine` and `arctangent` refuse (7): beyond 16, or where an argument is not finite.
+-- Said twice: of the port, each use of an angle is one that those calls answer; of the source, what its angle functions give elsewhere changes nothing.
 use mathlib.Core.Path.{_≡_}
 use mathlib.Core.List.{List}
 use Prim.Native.Nat.{ℕ, _<_}

@@ -2,7 +2,7 @@
 -- A search goes at most 90 degrees: all its steps but the last stay below 45. Assumes nothing.
 use mathlib.Core.Path.{_≡_, refl, sym, subst}
 use mathlib.Core.Bool.{Bool, true, false, cond}
-use Prim.Native.Nat.{ℕ, zero, suc, _+_, _*_, _^_, _≤_, _<_}
+use Prim.Native.Nat.{ℕ, zero, suc, _*_, _≤_, _<_}
 use native.Mathlib.Nat.{mul-pos, mul-le-mul-right}
 use native.Mathlib.Omega.{arith}
 use borrow.Author.Tests.{ne-eqb, lt-ltb, ltb-true, ltb-false}
@@ -13,24 +13,21 @@ use lib.Ieee.Back.{round-whole}
 use lib.Ieee.Exact.{HasValue}
 use lib.Ieee.Fits.{up-pos, down-pos}
 use lib.Ieee.Order.{round-mono, le-of-values}
-use lib.Ieee.Positive.{positive}
 use lib.Ieee.Scale.{finite}
-use Rattle.floats.specs.Floats.{zero32, clampOf, ceilOf}
+use Rattle.floats.specs.Floats.{zero32, clampOf}
 use Rattle.floats.proofs.Cross.{le→cross, of-left}
 use Rattle.floats.proofs.Ops.{finite-number}
 use Rattle.floats.proofs.Preorder.{le-trans-f, not-lt→le}
-use Rattle.floats.proofs.Ratio.{round-le}
 use Rattle.floats.proofs.Ceiling.{ceil-least}
 use Rattle.points.specs.declared.Point3.{Point3}
 use Rattle.limits.specs.Allowed.{nearest, within, angleStepOk}
 use Rattle.limits.proofs.Ends.{angle-step-finite}
 use Rattle.coords.specs.declared.Spherical.{Spherical}
-use Rattle.coords.specs.Coords.{full32, sphericalOf}
-use Rattle.coord_laws.specs.Answered.{ToCartesian}
+use Rattle.coords.specs.Coords.{full32}
 use Rattle.coord_laws.proofs.Size.{Small, small-wider, small-round, small-mul, small-mul-neg, small-add, between-small}
 use Rattle.coord_laws.proofs.Inside.{Inside, small-within}
 use Rattle.coord_laws.proofs.Answered.{turn-answered, azimuth-small, elevation-small, spherical-answered}
-use Rattle.neighbors.specs.Neighbors.{after, tilted, moved, steps, stepOf, angleCap, capOf}
+use Rattle.neighbors.specs.Neighbors.{after, tilted, moved, stepOf, angleCap, capOf}
 use Rattle.neighbor_laws.specs.Answered.{looks, SearchAnswered}
 use Rattle.neighbor_laws.proofs.Caps.{turn45, high, above, cap-most}
 
