@@ -26,10 +26,10 @@ use Rattle.load_laws.proofs.Domain.{accepts}
 
 module _ (g : Given) (fine : judged g ≡ Fine) where
   -- the three values of a measurement stand in the list of positions
-  pub within-list : (k : ℕ) → k < g .sizes .m → 3 * k + 2 < length (g .positions)
+  within-list : (k : ℕ) → k < g .sizes .m → 3 * k + 2 < length (g .positions)
   within-list k h = let z = went g fine .room .exact in omega arith
 
-  pub place-inside : (k : ℕ) → k < g .sizes .m → Inside (pointAt (after.cart g) k)
+  place-inside : (k : ℕ) → k < g .sizes .m → Inside (pointAt (after.cart g) k)
   place-inside k h = positions-inside (g .kind) (g .positions) (g .work .cartesian) (went g fine .known) (went g fine .values) k (within-list k h)
 
   pub place-searched : (k : ℕ) → k < g .sizes .m → SearchAnswered (g .angle) (g .radius) (pointAt (after.cart g) k)
