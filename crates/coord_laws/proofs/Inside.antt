@@ -9,6 +9,7 @@ use mathlib.Core.Bool.{Bool, true, false, _&&_}
 use lib.Dec.{T}
 use lib.Ieee.{Float, nan, binary32, round, neg, mul, le, lt, eq}
 use lib.Ieee.Fits.{mul-fits}
+use Rattle.floats.specs.Floats.{zero32}
 use Rattle.floats.proofs.Preorder.{le-trans-f}
 use Rattle.points.specs.declared.Point3.{Point3}
 use Rattle.limits.specs.Allowed.{nearest, between, within, radiusOk, cartesianOk, positionOk}
@@ -19,7 +20,7 @@ use Rattle.coords.specs.Coords.{perDegree, turnOf, alongOf, cartesianOf}
 use Rattle.coords.specs.Arrays.{turned, lifted, byTriplets}
 use Rattle.coords.proofs.Places.{changed-at}
 use Rattle.points.specs.Points.{pointAt}
-use Rattle.coord_laws.proofs.Size.{bare, Small, small-mul, small-between, between-small}
+use Rattle.coord_laws.proofs.Size.{Small, small-wider, small-mul, small-between, between-small}
 use Rattle.coord_laws.proofs.Turns.{rim, sin-small, cos-small}
 
 -- each coordinate has magnitude at most 10001
@@ -55,16 +56,21 @@ again c h hc hh = small-mul binary32 rim b1 b2 c h tt tt tt tt hc hh
 
 wider : (z : Float) → Small b1 z → Small b2 z
 unfolding round le lt eq
-wider z h = record { held = h .held; most = le-trans-f (bare z) b1 b2 (h .most) tt }
+wider z h = small-wider b1 b2 z tt h
 
 both : (a b : Bool) → T a → T b → (a && b) ≡ true
 both true true p q = refl
 both true false p q = absurd q
 both false b p q = absurd p
 
-small-within : (x : Float) → Small b2 x → within 10001 1 x ≡ true
-unfolding within between round neg le lt eq
-small-within x h = let s = small-between b2 x tt tt h in both (le (neg b2) x) (le x b2) (s .0) (s .1)
+-- a size at most b, for an end b that is no less than zero
+pub small-within : (a b : ℕ) (x : Float) → T (le (neg zero32) (nearest a b)) → T (le (neg (nearest a b)) zero32) → Small (nearest a b) x → within a b x ≡ true
+unfolding within between
+small-within a b x l k h = let s = small-between (nearest a b) x l k h in both (le (neg (nearest a b)) x) (le x (nearest a b)) (s .0) (s .1)
+
+small-inside : (x : Float) → Small b2 x → within 10001 1 x ≡ true
+unfolding round neg le lt eq
+small-inside x h = small-within 10001 1 x tt tt h
 
 pub inside : (s : Spherical) → radiusOk (s .radius) ≡ true → Inside (cartesianOf s)
 unfolding cartesianOf alongOf turnOf
@@ -74,9 +80,9 @@ inside s e =
     let theta = mul binary32 (s .elevation) perDegree in
     let flat = once _ _ (cos-small theta (mul-fits binary32 (s .elevation) perDegree)) r in
     record {
-      x = small-within _ (again _ _ (cos-small phi (mul-fits binary32 (s .azimuth) perDegree)) flat);
-      y = small-within _ (again _ _ (sin-small phi (mul-fits binary32 (s .azimuth) perDegree)) flat);
-      z = small-within _ (wider _ (once _ _ (sin-small theta (mul-fits binary32 (s .elevation) perDegree)) r));
+      x = small-inside _ (again _ _ (cos-small phi (mul-fits binary32 (s .azimuth) perDegree)) flat);
+      y = small-inside _ (again _ _ (sin-small phi (mul-fits binary32 (s .azimuth) perDegree)) flat);
+      z = small-inside _ (wider _ (once _ _ (sin-small theta (mul-fits binary32 (s .elevation) perDegree)) r));
     }
 
 -- ---- lists: every position value was allowed
@@ -96,7 +102,19 @@ list-inside xs ok place h =
     last e = unfold pointAt in e
 
 -- a Cartesian value, copied
-pub copied-inside : (x : Float) → cartesianOk x ≡ true → within 10001 1 x ≡ true
+copied-inside : (x : Float) → cartesianOk x ≡ true → within 10001 1 x ≡ true
 unfolding cartesianOk within between round neg le lt eq
 copied-inside x e =
     both (le (neg b2) x) (le x b2) (le-trans-f (neg b2) (neg b0) x tt (between-low (neg b0) b0 x e)) (le-trans-f x b0 b2 (between-high (neg b0) b0 x e) tt)
+
+copied-at : (xs : List Float) (n : ℕ) → Allowed 0 xs n → (i : ℕ) → i < n → within 10001 1 (getD xs i nan) ≡ true
+copied-at xs n ok i h = copied-inside (getD xs i nan) (unfold positionOk in ok i h)
+
+-- a list of Cartesian positions
+pub list-copied : (xs : List Float) (n : ℕ) → Allowed 0 xs n → (place : ℕ) → 3 * place + 2 < n → Inside (pointAt xs place)
+unfolding pointAt
+list-copied xs n ok place h = record {
+  x = copied-at xs n ok (3 * place) (omega arith);
+  y = copied-at xs n ok (3 * place + 1) (omega arith);
+  z = copied-at xs n ok (3 * place + 2) h;
+}

@@ -1,3 +1,4 @@
 pub mod Size
 pub mod Turns
 pub mod Inside
+pub mod Answered

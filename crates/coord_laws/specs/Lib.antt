@@ -1,1 +1,1 @@
--- No definitions of its own: the law is stated over those of the crates `limits` and `coords`.
+pub mod Answered

@@ -4,3 +4,5 @@ pub mod Checks
 pub mod Load
 pub mod Domain
 pub mod Found
+pub mod Angles
+pub mod Any

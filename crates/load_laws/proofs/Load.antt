@@ -80,7 +80,8 @@ module _ (g : Given) (fine : judged g ≡ Fine) where
       let l : 3 * g .sizes .m ≡ length (cartesianFrom (g .kind) (g .positions)) = sym (as-long (g .kind) (g .positions) ∙ went g fine .room .exact) in
       ap (λ (k : ℕ). take k (after.cart g)) l ∙ take-over (cartesianFrom (g .kind) (g .positions)) (g .work .cartesian)
 
-  converts : «convert_to_cartesian» ported (typeOf (g .kind)) (file g) ≡ set.hrtf s
+  -- the source's set after its conversion
+  pub converts : «convert_to_cartesian» ported (typeOf (g .kind)) (file g) ≡ set.hrtf s
   unfolding «convert_to_cartesian»
   converts =
       let p = sym (positions-same (g .kind) (g .positions)) ∙ sym front in

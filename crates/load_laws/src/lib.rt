@@ -8,3 +8,7 @@
 //
 // The way there: proofs/Positions.antt (the Cartesian list is what the source copies or converts, within ±10001), proofs/Loaded.antt (the premise of source_laws's
 // `same`), proofs/Checks.antt (no later call is refused by its own checks).
+//
+// specs/Angles.antt: no angle of a load is refused, on one page. proofs/Angles.antt: each use of an angle is one that `sine`, `cosine` and `arctangent` answer
+// (`angles-answered`). proofs/Any.antt: with any angle functions that agree with these where they answer, the source converts and opens the same
+// (`any-converts`, `any-angles`), so the +0 that `sin`, `cos` and `atan2` give elsewhere is never seen.

@@ -16,7 +16,7 @@ use Rattle.limits.proofs.Ends.{between-low, between-high}
 use Rattle.neighbors.specs.Neighbors.{angleCap}
 
 -- 45, and the f32 nearest 0.1
-abbrev turn45 : Float
+abbrev pub turn45 : Float
 turn45 = fin false 45 (pos 0)
 
 module _ (angle : Float) (ok : angleStepOk angle ≡ true) where
@@ -24,11 +24,11 @@ module _ (angle : Float) (ok : angleStepOk angle ≡ true) where
   unfolding angleStepOk
   low = between-low (nearest 1 10) (nearest 45 1) angle ok
 
-  high : T (le angle (nearest 45 1))
+  pub high : T (le angle (nearest 45 1))
   unfolding angleStepOk
   high = between-high (nearest 1 10) (nearest 45 1) angle ok
 
-  above : T (positive angle)
+  pub above : T (positive angle)
   unfolding round
   above = between (nearest 1 10) angle (nearest 45 1) tt tt low high
 

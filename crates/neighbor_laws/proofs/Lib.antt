@@ -1,3 +1,4 @@
 pub mod Settled
 pub mod Absent
 pub mod Caps
+pub mod Answered
