@@ -18,4 +18,4 @@ use Rattle.examples.specs.Table.{blank, Holds, rows}
 
 pub table : Each Holds rows
 unfolding kept fill blank ofBits add sub mul neg lt le eq byAxis coordOf nextAxis distSq outside boxDistSq boxAt grown withMin withMax goesLeft leftFirst pointAt linkOf sideOf subtree improve visited nearerBox fartherBox farther afterNear search sideSlot slotIn written linkedLeft linkedRight bySlot insertOf startAt foundFrom numberOf nearestOf div rootOf radiusOf scaled clampedTo ceilOf angleCap
-table = (refl, (refl, (refl, (refl, (refl, (refl, (refl, (refl, (refl, (refl, (refl, (refl, (refl, tt)))))))))))))
+table = (refl, (refl, (refl, (refl, (refl, (refl, ((refl, (refl, tt)), (refl, (refl, (refl, (refl, (refl, (refl, (refl, (refl, tt)))))))))))))))

@@ -3,3 +3,4 @@ pub mod Loaded
 pub mod Checks
 pub mod Load
 pub mod Domain
+pub mod Found

@@ -225,10 +225,15 @@ module _ (g : Given) (fine : judged g ≡ Fine) where
 never : {n p : ℕ} {look : Lookup} → Refused n p ≡ Ready look → ⊥
 never e = let z : _≡_ {A = ℕ} 0 1 = cc in omega arith
 
-ready-fine : (v : Verdict) (l : Load) (d : Work) (look : Lookup) → loadBy v l d .answer ≡ Ready look → v ≡ Fine
+fine-by : (v : Verdict) (l : Load) (d : Work) (look : Lookup) → loadBy v l d .answer ≡ Ready look → v ≡ Fine
 unfolding loadBy
-ready-fine verdict.Fine l d look e = refl
-ready-fine (verdict.Refused n p) l d look e = absurd (never e)
+fine-by verdict.Fine l d look e = refl
+fine-by (verdict.Refused n p) l d look e = absurd (never e)
+
+-- where `load` answers Ready no line of the table is met
+pub ready-fine : (g : Given) (look : Lookup) → loaded g .answer ≡ Ready look → judged g ≡ Fine
+unfolding loadOf
+ready-fine g look e = fine-by (judged g) (after.done g) (g .work) look e
 
 -- LOAD ACCEPTS every input of which no line of the table is met
 pub accepted : (g : Given) → judged g ≡ Fine → loaded g .answer ≡ Ready (set.look (setIn g (loaded g .work)))
@@ -240,12 +245,9 @@ accepted g fine = subst (λ (l : Load). l .answer ≡ Ready (set.look (setIn g (
 -- DEMAND 2: whatever `load` answers Ready to, what it left and what later calls answer is the source's
 pub from-load : (g : Given) (look : Lookup) → loaded g .answer ≡ Ready look → LoadsAsSource g (loaded g .work) look
 from-load g look e =
-    let fine : judged g ≡ Fine = asked in
+    let fine = ready-fine g look e in
     let el : set.look (setIn g (loaded g .work)) ≡ look = ready (accepted g fine) in
     subst (LoadsAsSource g (loaded g .work)) el (subst (λ (l : Load). LoadsAsSource g (l .work) (set.look (setIn g (l .work)))) (sym (says g fine)) (as-source g fine))
   where
-    asked : judged g ≡ Fine
-    asked = unfold loadOf in ready-fine (judged g) (after.done g) (g .work) look e
-
     ready : {l : Lookup} → loaded g .answer ≡ Ready l → l ≡ look
     ready h = cc

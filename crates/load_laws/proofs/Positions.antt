@@ -1,4 +1,4 @@
--- The front of the Cartesian list after a load: what the source copies or converts, and each of its points finite. Assumes nothing.
+-- The front of the Cartesian list after a load: what the source copies or converts, each coordinate of magnitude at most 10001 and so finite. Assumes nothing.
 use mathlib.Core.Path.{_≡_, refl, _∙_, subst}
 use mathlib.Core.Bool.{true}
 use mathlib.Core.List.{List}
@@ -13,10 +13,10 @@ use Rattle.lists.specs.Over.{over}
 use Rattle.points.specs.Points.{pointAt, Finite}
 use Rattle.limits.specs.Allowed.{nearest, within, kindOk, positionOk}
 use Rattle.limits.proofs.Passed.{Allowed}
-use Rattle.limits.proofs.Ends.{between-finite, cartesian-finite}
+use Rattle.limits.proofs.Ends.{between-finite}
 use Rattle.coords.specs.Arrays.{turned, byTriplets}
 use Rattle.coords.proofs.Places.{changed-length}
-use Rattle.coord_laws.proofs.Inside.{list-inside}
+use Rattle.coord_laws.proofs.Inside.{Inside, list-inside, copied-inside}
 use Rattle.loads.specs.Load.{cartesianFrom}
 use Rattle.source.specs.Hrtf.{«convert_array_to_cartesian_if_spherical»}
 use Rattle.source_laws.specs.Drawn.{ported}
@@ -39,7 +39,7 @@ unfolding «convert_array_to_cartesian_if_spherical»
 positions-same zero xs = copied xs
 positions-same (suc k) xs = converted k xs ∙ to-cartesian xs
 
--- ---- finite
+-- ---- within bounds
 
 -- a value that is written to the front of a list stands there
 front-point : (xs d : List Float) (place : ℕ) → 3 * place + 2 < length xs → pointAt (over xs d) place ≡ pointAt xs place
@@ -51,24 +51,33 @@ front-point xs d place h =
     let c = List·getD-append xs rest nan (3 * place + 2) (omega arith) in
     λ i. record { x = a i; y = b i; z = c i }
 
-copied-value : (i : ℕ) (x : Float) → positionOk 0 i x ≡ true → T (finite x)
+copied-value : (i : ℕ) (x : Float) → positionOk 0 i x ≡ true → within 10001 1 x ≡ true
 unfolding positionOk
-copied-value i x e = cartesian-finite x e
-
-within-finite : (x : Float) → within 10001 1 x ≡ true → T (finite x)
-unfolding within round neg
-within-finite x e = between-finite (neg (nearest 10001 1)) (nearest 10001 1) x tt tt e
+copied-value i x e = copied-inside x e
 
 one-of : (k : ℕ) → kindOk (suc k) ≡ true → k ≡ 0
 unfolding kindOk
 one-of k e = let z = eqb-true (suc k) 1 (rw (ne-eqb (suc k) 0 (λ z. omega arith)) at e) in omega arith
 
--- EACH POINT IS FINITE, copied or converted
-pub positions-finite : (kind : ℕ) (xs d : List Float) → kindOk kind ≡ true → Allowed kind xs (length xs) → (place : ℕ) → 3 * place + 2 < length xs
-    → Finite (pointAt (over (cartesianFrom kind xs) d) place)
-positions-finite zero xs d known ok place h = rw (copied xs) (rw (front-point xs d place h) (unfold pointAt in
+-- EACH COORDINATE IS OF MAGNITUDE AT MOST 10001, copied or converted
+pub positions-inside : (kind : ℕ) (xs d : List Float) → kindOk kind ≡ true → Allowed kind xs (length xs) → (place : ℕ) → 3 * place + 2 < length xs
+    → Inside (pointAt (over (cartesianFrom kind xs) d) place)
+positions-inside zero xs d known ok place h = rw (copied xs) (rw (front-point xs d place h) (unfold pointAt in
     record { x = copied-value (3 * place) _ (ok (3 * place) (omega arith)); y = copied-value (3 * place + 1) _ (ok (3 * place + 1) (omega arith)); z = copied-value (3 * place + 2) _ (ok (3 * place + 2) h) }))
-positions-finite (suc k) xs d known ok place h =
+positions-inside (suc k) xs d known ok place h =
     let e = list-inside xs (subst (λ (j : ℕ). Allowed (suc j) xs (length xs)) (one-of k known) ok) place h in
     let l = changed-length (turned 1) xs in
-    rw (converted k xs) (rw (front-point (byTriplets (turned 1) xs) d place (omega arith)) (record { x = within-finite _ (e .x); y = within-finite _ (e .y); z = within-finite _ (e .z) }))
+    rw (converted k xs) (rw (front-point (byTriplets (turned 1) xs) d place (omega arith)) e)
+
+-- ---- finite
+
+within-finite : (x : Float) → within 10001 1 x ≡ true → T (finite x)
+unfolding within round neg
+within-finite x e = between-finite (neg (nearest 10001 1)) (nearest 10001 1) x tt tt e
+
+-- SO EACH POINT IS FINITE
+pub positions-finite : (kind : ℕ) (xs d : List Float) → kindOk kind ≡ true → Allowed kind xs (length xs) → (place : ℕ) → 3 * place + 2 < length xs
+    → Finite (pointAt (over (cartesianFrom kind xs) d) place)
+positions-finite kind xs d known ok place h =
+    let e = positions-inside kind xs d known ok place h in
+    record { x = within-finite _ (e .x); y = within-finite _ (e .y); z = within-finite _ (e .z) }

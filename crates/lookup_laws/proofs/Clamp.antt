@@ -17,14 +17,15 @@ use Rattle.floats.proofs.Cross.{of-taken, of-left}
 use Rattle.floats.proofs.Sign.{nonneg, round-neg, round-nonneg, sq-neg}
 use Rattle.floats.proofs.Ops.{finite-number, sq-nonneg, sq-mono, add-nonneg, add-grows, add-grows-r}
 use Rattle.floats.proofs.Preorder.{le-trans-f, lt→le, le→not-lt, not-lt→le, lt-le-trans}
-use Rattle.floats.proofs.Ratio.{one, magnitude, div-mono, div-le-one, mul-mono-mag, mul-shrinks}
+use Rattle.floats.proofs.Ratio.{one, magnitude, div-mono, div-le-one, mul-mono-mag}
 use Rattle.points.specs.declared.Point3.{Point3}
+use Rattle.points.specs.Points.{Finite}
 use Rattle.root.specs.Root.{rootOf}
 use Rattle.root.proofs.Laws.{rootOf-positive, rootOf-mono}
 use Rattle.coords.specs.Coords.{radiusOf}
 use Rattle.lookup.specs.declared.Lookup.{Lookup}
 use Rattle.lookup.specs.Lookup.{scaled, clampedTo, clampedBy}
-use Rattle.lookup_laws.specs.Clamp.{Values, FiniteValues, zeroLike, Radii, reach}
+use Rattle.lookup_laws.specs.Clamp.{zeroLike, Radii, reach}
 
 -- ---- values that are finite and not negative
 
@@ -112,20 +113,6 @@ other-sign m e (inf t) q f = absurd q
 other-sign m e (fin true n d) q f = absurd q
 other-sign m e (fin false n d) q f =
     subst (λ (z : Float). T (finite z)) (sym (round-neg binary32 (m * up e * (n * up d)) (down e * down d))) (neg-finite (round binary32 false (m * up e * (n * up d)) (down e * down d)) f)
-
-same-fits : (m : ℕ) (e : ℤ) → T (fits binary32 (fin true m e)) → T (fits binary32 (fin false m e))
-unfolding fits
-same-fits zero e h = h
-same-fits (suc m) e h = h
-
-shrunk : (x s : Float) → T (finite x) → T (fits binary32 x) → T (magnitude s) → T (le s one) → T (finite (mul binary32 x s))
-shrunk nan s f w q h = absurd f
-shrunk (inf t) s f w q h = absurd f
-shrunk (fin false m e) s f w q h =
-    magnitude-finite (mul binary32 (fin false m e) s) (bounded (mul binary32 (fin false m e) s) (fin false m e) (mul-nonneg (fin false m e) s tt q) tt (mul-shrinks binary32 (fin false m e) s tt q w h))
-shrunk (fin true m e) s f w q h =
-    other-sign m e s q (magnitude-finite (mul binary32 (fin false m e) s)
-    (bounded (mul binary32 (fin false m e) s) (fin false m e) (mul-nonneg (fin false m e) s tt q) tt (mul-shrinks binary32 (fin false m e) s tt q (same-fits m e w) h)))
 
 -- ---- drawn out: the radius is no less than the root of the smallest value, and a coordinate no more than 2 ^ 26
 
@@ -299,26 +286,91 @@ to-zero (fin false m e) f =
 to-zero (fin true m e) f =
     round-same binary32 true (m * up e * (0 * 1)) (down e * 1) 0 1 (mul-pos (down-pos e) (omega arith)) (omega arith) (omega arith) ∙ (unfold round in refl)
 
+-- ---- drawn in: a coordinate whose square is finite is at most 2 ^ 64, and where the squares overflow the scale is 0
+
+-- its square overflows
+abbrev wide : Float
+wide = fin false 1 (pos 64)
+
+small-square : (x : Float) → T (finite x) → T (finite (mul binary32 x x)) → T (le (size x) wide)
+small-square x f h = go (lt wide (size x)) refl
+  where
+    m : T (magnitude (size x))
+    m = size-magnitude x f
+
+    infinite : (y : Float) → T (le (mul binary32 wide wide) y) → T (finite y) → ⊥
+    infinite nan l g = g
+    infinite (inf s) l g = g
+    infinite (fin s n d) l g = unfold mul le lt eq in l
+
+    clash : T (lt wide (size x)) → ⊥
+    clash t =
+        let a = sq-mono binary32 wide (size x) tt (magnitude-nonneg (size x) m) (lt→le wide (size x) t) in
+        infinite (mul binary32 x x) (subst (λ (z : Float). T (le (mul binary32 wide wide) z)) (size-square x f) a) h
+
+    go : (b : Bool) → lt wide (size x) ≡ b → T (le (size x) wide)
+    go true e = absurd (clash (of-taken e))
+    go false e = not-lt→le wide (size x) (finite-number wide tt) (finite-number (size x) (magnitude-finite (size x) m)) (of-left e)
+
+widest : T (finite (mul binary32 wide one))
+unfolding mul
+widest = tt
+
+-- a size that is at most 2 ^ 64, by a scale that is at most 1
+shrunk-size : (x s : Float) → T (magnitude x) → T (le x wide) → T (magnitude s) → T (le s one) → T (finite (mul binary32 x s))
+shrunk-size x s p l q h = magnitude-finite (mul binary32 x s) (bounded (mul binary32 x s) (mul binary32 wide one) (mul-nonneg x s p q) widest (mul-mono-mag binary32 x wide s one p tt q tt l h))
+
+shrunk : (x s : Float) → T (finite x) → T (le (size x) wide) → T (magnitude s) → T (le s one) → T (finite (mul binary32 x s))
+shrunk nan s f l q h = absurd f
+shrunk (inf t) s f l q h = absurd f
+shrunk (fin false m e) s f l q h = shrunk-size (fin false m e) s tt l q h
+shrunk (fin true m e) s f l q h = other-sign m e s q (shrunk-size (fin false m e) s tt l q h)
+
+zeroed : (x : Float) → T (finite x) → T (finite (zeroLike x))
+zeroed nan f = f
+zeroed (inf s) f = tt
+zeroed (fin s m e) f = tt
+
+overflowed : (x g : Float) → T (finite x) → T (nonneg g) → T (lt g (inf false)) → T (finite (mul binary32 x (div binary32 g (inf false))))
+unfolding lt div
+overflowed x nan f p h = absurd p
+overflowed x (inf true) f p h = absurd p
+overflowed x (inf false) f p h = absurd h
+overflowed x (fin true n d) f p h = absurd p
+overflowed x (fin false n d) f p h = subst (λ (z : Float). T (finite z)) (sym (to-zero x f)) (zeroed x f)
+
+-- s: the sum of squares, one of them that of x
+drawn-in : (x s greatest : Float) → T (finite x) → T (nonneg s) → T (le (mul binary32 x x) s) → T (nonneg greatest) → lt greatest (rootOf s) ≡ true
+    → T (finite (mul binary32 x (div binary32 greatest (rootOf s))))
+drawn-in x nan g f n u p e = absurd n
+drawn-in x (inf true) g f n u p e = absurd n
+drawn-in x (inf false) g f n u p e = unfold rootOf in overflowed x g f p (unfold rootOf in of-taken e)
+drawn-in x (fin true m d) g f n u p e = absurd n
+drawn-in x (fin false m d) g f n u p e =
+    let k = scale-in g (rootOf (fin false m d)) p e in
+    let w = bounded (mul binary32 x x) (fin false m d) (sq-nonneg binary32 x (finite-number x f)) tt u in
+    shrunk x (div binary32 g (rootOf (fin false m d))) f (small-square x f (magnitude-finite (mul binary32 x x) w)) (k .0) (k .1)
+
 -- ---- the laws
 
-module _ (look : Lookup) (q : Point3) (f : FiniteValues q) where
+module _ (look : Lookup) (q : Point3) (f : Finite q) where
   abbrev squares : Float
   squares = sum (q .x) (q .y) (q .z) (f .x) (f .y) (f .z)
 
   -- THE CLAMPED COORDINATES OF A FINITE QUERY ARE FINITE
-  pub clamped-finite : Radii look → Values q → FiniteValues (clampedBy look q)
+  pub clamped-finite : Radii look → Finite (clampedBy look q)
   unfolding clampedBy clampedTo scaled radiusOf
-  clamped-finite R v = go (lt (look .«radius_max») (rootOf squares)) (lt (rootOf squares) (look .«radius_min»)) (lt zero32 (rootOf squares)) refl refl refl
+  clamped-finite R = go (lt (look .«radius_max») (rootOf squares)) (lt (rootOf squares) (look .«radius_min»)) (lt zero32 (rootOf squares)) refl refl refl
     where
       go : (a b c : Bool) → lt (look .«radius_max») (rootOf squares) ≡ a → lt (rootOf squares) (look .«radius_min») ≡ b → lt zero32 (rootOf squares) ≡ c
-          → FiniteValues (cond a (scaled q (div binary32 (look .«radius_max») (rootOf squares))) (cond (b && c) (scaled q (div binary32 (look .«radius_min») (rootOf squares))) q))
+          → Finite (cond a (scaled q (div binary32 (look .«radius_max») (rootOf squares))) (cond (b && c) (scaled q (div binary32 (look .«radius_min») (rootOf squares))) q))
       go true b c ea eb ec =
-          let k = scale-in (look .«radius_max») (rootOf squares) (R .greatest) ea in
+          let n = sum-nonneg (q .x) (q .y) (q .z) (f .x) (f .y) (f .z) in
           unfold scaled in
           record {
-            x = shrunk (q .x) _ (f .x) (v .x) (k .0) (k .1);
-            y = shrunk (q .y) _ (f .y) (v .y) (k .0) (k .1);
-            z = shrunk (q .z) _ (f .z) (v .z) (k .0) (k .1);
+            x = drawn-in (q .x) squares (look .«radius_max») (f .x) n (under-x (q .x) (q .y) (q .z) (f .x) (f .y) (f .z)) (R .greatest) ea;
+            y = drawn-in (q .y) squares (look .«radius_max») (f .y) n (under-y (q .x) (q .y) (q .z) (f .x) (f .y) (f .z)) (R .greatest) ea;
+            z = drawn-in (q .z) squares (look .«radius_max») (f .z) n (under-z (q .x) (q .y) (q .z) (f .x) (f .y) (f .z)) (R .greatest) ea;
           }
       go false true true ea eb ec =
           let w : T (fits binary32 squares) = add-fits binary32 (add binary32 (mul binary32 (q .x) (q .x)) (mul binary32 (q .y) (q .y))) (mul binary32 (q .z) (q .z)) in

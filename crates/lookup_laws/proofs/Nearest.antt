@@ -1,26 +1,32 @@
--- Demand 3 carried over to a loaded set: what is found is what the unpruned walk of the bare tree names, and no measurement is nearer. Assumes nothing.
+-- Demand 3 carried over to a loaded set: what is found is what the unpruned walk names, no measurement is nearer, one that alone is nearest is found, and of
+-- several the first that the walk meets. Assumes nothing.
 use mathlib.Core.Path.{_≡_, refl, sym, ap, _∙_, subst}
 use mathlib.Core.Logic.{_⊎_, inl, inr}
-use mathlib.Core.Bool.{Bool, true, false, not}
-use mathlib.Core.List.{List, [], _∷_}
+use mathlib.Core.Bool.{Bool, true, false}
+use mathlib.Core.List.{List, _∷_}
 use Prim.Native.Nat.{ℕ, zero, suc, _+_, _<_, _≤_}
 use native.Mathlib.Omega.{arith}
 use lib.ListN.{length, replicate, length-replicate}
-use lib.Dec.{T, ltb, ltb→lt, lt→ltb}
-use lib.Ieee.{Float, lt}
+use lib.Dec.{T, eqb, ltb, ltb→lt, lt→ltb}
+use lib.Ieee.{Float}
+use borrow.Author.Tests.{eqb-true, eq-eqb}
 use Rattle.lists.specs.Over.{over, upto}
 use Rattle.lists.proofs.Laws.{length-over, length-upto}
 use Rattle.points.specs.declared.Point3.{Point3}
-use Rattle.points.specs.Points.{pointAt, distSq, Finite}
+use Rattle.points.specs.Points.{pointAt, Finite}
 use Rattle.kdtree.specs.declared.BoundingBox.{BoundingBox}
 use Rattle.kdtree.specs.declared.Named.the-variants.{Number}
 use Rattle.kdtree.specs.Geometry.{boxAt}
 use Rattle.kdtree.specs.Insert.{Lists, listsOf}
 use Rattle.kdtree.specs.Nearest.{placeOf, numberOf}
+use Rattle.kdtree.specs.Tree.{Tree, subtree}
+use Rattle.kdtree.specs.Unpruned.{Item, order}
+use Rattle.kdtree.proofs.Nodes.{subtree-below}
 use Rattle.kdtree.proofs.Whole as whole
 use Rattle.lists.specs.Each.{Each, In}
-use Rattle.walks.specs.Demand3.{Numbered, NotNearer, Bare, RoomFor, nearestIn, walkNames}
-use Rattle.walks.proofs.Lists.{each-in}
+use Rattle.walks.specs.Demand3.{Numbered, Nearer, NotNearer, Reordered, Bare, RoomFor, nearestIn, standing, rootOf, walkNames, visiting, FirstNearest, NamesNearest}
+use Rattle.walks.proofs.Lists.{each-in, each-to, map-same}
+use Rattle.walks.proofs.First.{tf, all-order}
 use Rattle.walks.proofs.Demand3 as demand
 use Rattle.lookup.specs.declared.Lookup.{Lookup}
 use Rattle.lookup.specs.declared.Located.{Located}
@@ -28,7 +34,7 @@ use Rattle.lookup.specs.declared.Located.the-variants.{At}
 use Rattle.lookup.specs.Build.{Links, linked, boxOf}
 use Rattle.lookup.specs.Lookup.{clampedBy, locatedAs, locateOf}
 use Rattle.lookup.proofs.Links.{linked-left, linked-right}
-use Rattle.lookup_laws.specs.Loaded.{placed, placedFrom, Room, filledWith}
+use Rattle.lookup_laws.specs.Loaded.{placed, placedFrom, walked, Room, filledWith}
 use Rattle.lookup_laws.proofs.Loaded as built
 
 -- ---- lists of measurements in place order
@@ -52,10 +58,10 @@ in-placed xs (suc n) i j h k = go (ltb i j) (ltb→lt i j) (lt→ltb i j) (λ l.
     go true f g r = inr (r (f tt))
     go false f g r = let z : (i < j → ⊥) = g in let e : j ≡ i = omega (arith, h) in inl (ap (placed xs) e)
 
-placed-of : (xs : List Float) (n i : ℕ) (w : Numbered) → In w (placedFrom xs n i) → w .point ≡ pointAt xs (w .number)
+placed-of : (xs : List Float) (n i : ℕ) (w : Numbered) → In w (placedFrom xs n i) → w ≡ placed xs (w .number)
 unfolding placedFrom
 placed-of xs zero i w h = absurd h
-placed-of xs (suc n) i w (inl e) = ap (λ (x : Numbered). x .point) e ∙ ap (pointAt xs) (sym (ap (λ (x : Numbered). x .number) e))
+placed-of xs (suc n) i w (inl e) = e ∙ ap (placed xs) (sym (ap (λ (x : Numbered). x .number) e))
 placed-of xs (suc n) i w (inr h) = placed-of xs n (suc i) w h
 
 -- ---- the search of a set and that of the bare tree
@@ -114,6 +120,10 @@ module _ (xs : List Float) (k : ℕ) (d : Links) (room : Room xs (suc k) d) wher
     unfolding filledWith placedFrom
     named = demand.names begun (boxAt (pointAt xs 0)) (placed xs 0) (placedFrom xs k 1) room-for p
 
+    visits : Reordered (placedFrom xs m 0) (visiting tree p)
+    unfolding filledWith placedFrom
+    visits = demand.visits-all begun (boxAt (pointAt xs 0)) (placed xs 0) (placedFrom xs k 1) room-for p
+
     place-is : P .best .place ≡ walkNames tree p .number
     place-is = let a = nearest-is in let b = named in cc
 
@@ -122,15 +132,44 @@ module _ (xs : List Float) (k : ℕ) (d : Links) (room : Room xs (suc k) d) wher
       unfolding placedFrom
       all-finite = each-placed (λ (x : Numbered). Finite (x .point)) xs (suc k) 0 (λ j h. finite j (omega arith))
 
-      not-nearer : (i : ℕ) → i < m → NotNearer p (placed xs i) (walkNames tree p)
+      nearest : NamesNearest p (placedFrom xs m 0) tree
       unfolding filledWith placedFrom
-      not-nearer i h =
-          each-in (λ (x : Numbered). NotNearer p x (walkNames tree p)) (placed xs 0 ∷ placedFrom xs k 1) (placed xs i)
-          (demand.least begun (boxAt (pointAt xs 0)) (placed xs 0) (placedFrom xs k 1) room-for p all-finite fp) (in-placed xs (suc k) 0 i (omega arith) (omega arith))
+      nearest = demand.names-nearest begun (boxAt (pointAt xs 0)) (placed xs 0) (placedFrom xs k 1) room-for p all-finite fp
 
-      point-is : walkNames tree p .point ≡ pointAt xs (walkNames tree p .number)
-      unfolding filledWith placedFrom
-      point-is = placed-of xs (suc k) 0 (walkNames tree p) (demand.named-one begun (boxAt (pointAt xs 0)) (placed xs 0) (placedFrom xs k 1) room-for p all-finite fp)
+      named-is : walkNames tree p ≡ placed xs (walkNames tree p .number)
+      named-is = placed-of xs m 0 (walkNames tree p) (nearest .one-of)
+
+      not-nearer : (i : ℕ) → i < m → NotNearer p (placed xs i) (walkNames tree p)
+      not-nearer i h = each-in (λ (x : Numbered). NotNearer p x (walkNames tree p)) (placedFrom xs m 0) (placed xs i) (nearest .least) (in-placed xs m 0 i (omega arith) (omega arith))
+
+      alone-is : (i : ℕ) → i < m → ((j : ℕ) → j < m → (j ≡ i → ⊥) → Nearer p (placed xs i) (placed xs j)) → walkNames tree p .number ≡ i
+      alone-is i h f = let a = named in let b = nearest .alone (placed xs i) (record { stands = in-placed xs m 0 i (omega arith) (omega arith); farther = each-placed _ xs m 0 (λ j l. other j (omega arith)) }) in cc
+        where
+          other : (j : ℕ) → j < m → (placed xs j ≡ placed xs i) ⊎ Nearer p (placed xs i) (placed xs j)
+          other j l = go (eqb j i) refl
+            where
+              go : (b : Bool) → eqb j i ≡ b → (placed xs j ≡ placed xs i) ⊎ Nearer p (placed xs i) (placed xs j)
+              go true e = inl (ap (placed xs) (eqb-true j i e))
+              go false e = inr (f j l (λ z. tf (eqb j i) (eq-eqb j i z) e))
+
+    -- ---- the walk over the set's own links
+
+    abbrev drawn : Tree
+    drawn = subtree left right xs m m 0
+
+    stands : (j : ℕ) → j < m → standing (listsOf xs left right numbers) j ≡ placed xs j
+    stands j h = ap (λ (n : ℕ). record { number = n; point = pointAt xs j }) (built.number-at m j (replicate m zero) h)
+
+    root-is : rootOf tree ≡ placed xs 0
+    root-is = ap rootOf (built.loaded xs m d room) ∙ stands 0 (omega arith)
+
+    walk-is : visiting tree p ≡ walked xs m left right p
+    unfolding visiting
+    walk-is =
+        ap (λ (t : Bare). visiting t p) (built.loaded xs m d room)
+        ∙ map-same (λ (i : Item). standing (listsOf xs left right numbers) (i .place)) (λ (i : Item). placed xs (i .place)) (order p drawn 0)
+        (each-to (λ (i : Item). i .place < m) (λ (i : Item). standing (listsOf xs left right numbers) (i .place) ≡ placed xs (i .place)) (λ i h. stands (i .place) h) (order p drawn 0)
+        (all-order p (λ n x. n < m) drawn 0 (subtree-below left right xs m m 0 (omega arith))))
 
 -- ---- THE LAWS, for a lookup whose box is the one built
 
@@ -147,13 +186,41 @@ names xs (suc k) d room look eb q =
     ap (λ (b : BoundingBox). locatedAs (placeOf xs (over (linked xs (suc k) .left) (d .left)) (over (linked xs (suc k) .right) (d .right)) (suc k) b p)) eb
     ∙ ap locatedAs (built.found xs (suc k) d room (boxOf xs (suc k)) p .is) ∙ ap At (place-is xs k d room p)
 
+named-as : (xs : List Float) (m : ℕ) (d : Links) → Room xs m d → (look : Lookup) → look .bounds ≡ boxOf xs m → (q : Point3)
+    → (n : ℕ) → answer xs m d look q ≡ At n → walkNames (filledWith xs m d) (clampedBy look q) .number ≡ n
+named-as xs m d room look eb q n e = let a = names xs m d room look eb q in cc
+
 -- NO MEASUREMENT IS NEARER to the clamped query than the one found, coordinates being finite; sums that overflow are no exception
 pub least : (xs : List Float) (m : ℕ) (d : Links) → Room xs m d → (look : Lookup) → look .bounds ≡ boxOf xs m → (q : Point3)
     → ((i : ℕ) → i < m → Finite (pointAt xs i)) → Finite (clampedBy look q) → (n : ℕ) → answer xs m d look q ≡ At n → (i : ℕ) → i < m
-    → T (not (lt (distSq (pointAt xs i) (clampedBy look q)) (distSq (pointAt xs n) (clampedBy look q))))
+    → NotNearer (clampedBy look q) (placed xs i) (placed xs n)
 least xs zero d room look eb q f fp n e i h = absurd (omega arith)
 least xs (suc k) d room look eb q f fp n e i h =
     let p = clampedBy look q in
-    let w = walkNames (filledWith xs (suc k) d) p in
-    let en : w .number ≡ n = let a = names xs (suc k) d room look eb q in cc in
-    subst (λ (x : Point3). T (not (lt (distSq (pointAt xs i) p) (distSq x p)))) (point-is xs k d room p f fp ∙ ap (pointAt xs) en) (not-nearer xs k d room p f fp i h)
+    let z = named-as xs (suc k) d room look eb q n e in
+    subst (λ (x : Numbered). NotNearer p (placed xs i) x) (named-is xs k d room p f fp ∙ ap (placed xs) z) (not-nearer xs k d room p f fp i h)
+
+-- A MEASUREMENT THAT ALONE IS NEAREST to the clamped query IS FOUND
+pub alone : (xs : List Float) (m : ℕ) (d : Links) → Room xs m d → (look : Lookup) → look .bounds ≡ boxOf xs m → (q : Point3)
+    → ((i : ℕ) → i < m → Finite (pointAt xs i)) → Finite (clampedBy look q) → (n : ℕ) → answer xs m d look q ≡ At n → (i : ℕ) → i < m
+    → ((j : ℕ) → j < m → (j ≡ i → ⊥) → Nearer (clampedBy look q) (placed xs i) (placed xs j)) → n ≡ i
+alone xs zero d room look eb q f fp n e i h g = absurd (omega arith)
+alone xs (suc k) d room look eb q f fp n e i h g = sym (named-as xs (suc k) d room look eb q n e) ∙ alone-is xs k d room (clampedBy look q) f fp i h g
+
+-- OF SEVERAL, THE FIRST THAT THE UNPRUNED WALK MEETS, the root before all
+pub first-met : (xs : List Float) (m : ℕ) (d : Links) → Room xs m d → (look : Lookup) → look .bounds ≡ boxOf xs m → (q : Point3)
+    → ((i : ℕ) → i < m → Finite (pointAt xs i)) → Finite (clampedBy look q) → (n : ℕ) → answer xs m d look q ≡ At n
+    → FirstNearest (clampedBy look q) (placed xs n) (placed xs 0 ∷ walked xs m (over (linked xs m .left) (d .left)) (over (linked xs m .right) (d .right)) (clampedBy look q))
+first-met xs zero d room look eb q f fp n e = let z = room .some in absurd (omega arith)
+first-met xs (suc k) d room look eb q f fp n e =
+    let p = clampedBy look q in
+    let w : walkNames (filledWith xs (suc k) d) p ≡ placed xs n = named-is xs k d room p f fp ∙ ap (placed xs) (named-as xs (suc k) d room look eb q n e) in
+    subst (λ (l : List Numbered). FirstNearest p (placed xs n) (placed xs 0 ∷ l)) (walk-is xs k d room p)
+    (subst (λ (r : Numbered). FirstNearest p (placed xs n) (r ∷ visiting (filledWith xs (suc k) d) p)) (root-is xs k d room p)
+    (subst (λ (x : Numbered). FirstNearest p x (rootOf (filledWith xs (suc k) d) ∷ visiting (filledWith xs (suc k) d) p)) w (nearest xs k d room p f fp .first-met)))
+
+-- THE WALK COMES TO EACH MEASUREMENT ONCE
+pub meets : (xs : List Float) (m : ℕ) (d : Links) → Room xs m d → (p : Point3)
+    → Reordered (placedFrom xs m 0) (walked xs m (over (linked xs m .left) (d .left)) (over (linked xs m .right) (d .right)) p)
+meets xs zero d room p = let z = room .some in absurd (omega arith)
+meets xs (suc k) d room p = subst (Reordered (placedFrom xs (suc k) 0)) (walk-is xs k d room p) (visits xs k d room p)

@@ -3,24 +3,12 @@ use mathlib.Core.Path.{_≡_}
 use mathlib.Core.Bool.{true, false}
 use lib.Dec.{T}
 use lib.IntN.{pos}
-use lib.Ieee.{Float, nan, inf, fin, binary32, le, fits}
-use lib.Ieee.Scale.{finite}
+use lib.Ieee.{Float, nan, inf, fin, le}
 use Rattle.floats.proofs.Sign.{nonneg}
 use Rattle.floats.proofs.Ratio.{magnitude}
 use Rattle.points.specs.declared.Point3.{Point3}
 use Rattle.limits.specs.Allowed.{within}
 use Rattle.lookup.specs.declared.Lookup.{Lookup}
-
--- coordinates that f32 holds, as every value of the type is
-pub record Values (p : Point3) : Type 0 where
-  pub x : T (fits binary32 (p .x))
-  pub y : T (fits binary32 (p .y))
-  pub z : T (fits binary32 (p .z))
-
-pub record FiniteValues (p : Point3) : Type 0 where
-  pub x : T (finite (p .x))
-  pub y : T (finite (p .y))
-  pub z : T (finite (p .z))
 
 -- the zero with a value's sign
 abbrev pub zeroLike : Float → Float

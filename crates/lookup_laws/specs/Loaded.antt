@@ -1,11 +1,14 @@
 -- A loaded set beside the bare tree that is filled with the same measurements, in place order. Definitions only; the theorems are in proofs/Loaded.antt.
 use mathlib.Core.Path.{_≡_}
-use mathlib.Core.List.{List, [], _∷_}
+use mathlib.Core.List.{List, [], _∷_, map}
 use Prim.Native.Nat.{ℕ, zero, suc, _*_, _<_, _≤_}
 use lib.ListN.{length, replicate}
 use lib.Ieee.{Float}
+use Rattle.points.specs.declared.Point3.{Point3}
 use Rattle.points.specs.Points.{pointAt}
 use Rattle.kdtree.specs.Geometry.{boxAt}
+use Rattle.kdtree.specs.Tree.{subtree}
+use Rattle.kdtree.specs.Unpruned.{Item, order}
 use Rattle.kdtree.specs.Insert.{listsOf}
 use Rattle.walks.specs.Demand3.{Numbered, Bare, empty, fill}
 use Rattle.lookup.specs.declared.Located.{Located}
@@ -20,6 +23,10 @@ placed xs i = record { number = i; point = pointAt xs i }
 unfoldable pub placedFrom : List Float → ℕ → ℕ → List Numbered
 placedFrom xs zero i = []
 placedFrom xs (suc n) i = placed xs i ∷ placedFrom xs n (suc i)
+
+-- the measurements of a set in the order in which the unpruned walk over its links comes to them: nearer side, node, farther side
+abbrev pub walked : List Float → ℕ → List ℕ → List ℕ → Point3 → List Numbered
+walked xs m left right p = map (λ (i : Item). placed xs (i .place)) (order p (subtree left right xs m m 0) 0)
 
 -- the lists of a set of m measurements are long enough, and it is not empty
 pub record Room (xs : List Float) (m : ℕ) (d : Links) : Type 0 where

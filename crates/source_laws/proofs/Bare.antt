@@ -1,4 +1,4 @@
--- The bare tree filled by inserts with room is the source's tree, and names what it names, whatever the floats. Assumes nothing.
+-- The bare tree filled by inserts with room is the source's tree, grows by its box, and names what it names, whatever the floats. Assumes nothing.
 use mathlib.Core.Path.{_≡_, refl, sym, ap, _∙_, subst}
 use mathlib.Core.List.{List, [], _∷_, _++_}
 use Prim.Native.Nat.{ℕ, suc, _+_, _-_}
@@ -8,14 +8,15 @@ use Rattle.points.specs.declared.Point3.{Point3}
 use Rattle.kdtree.specs.declared.BoundingBox.{BoundingBox}
 use Rattle.kdtree.specs.declared.Searched.{Searched}
 use Rattle.kdtree.specs.declared.Searched.the-variants.{Found, Stopped}
+use Rattle.kdtree.specs.declared.Inserted.the-variants.{Done}
 use Rattle.kdtree.specs.declared.Named.the-variants.{Number}
 use Rattle.kdtree.specs.Geometry.{grown}
 use Rattle.kdtree.specs.Tree.{Tree, subtree}
 use Rattle.kdtree.specs.Search.{search}
-use Rattle.kdtree.specs.Insert.{Lists}
+use Rattle.kdtree.specs.Insert.{Lists, Stored}
 use Rattle.kdtree.specs.Nearest.{startOf, foundFrom, numberOf}
 use Rattle.kdtree.proofs.Whole as whole
-use Rattle.walks.specs.Demand3.{Numbered, Bare, empty, fill, RoomFor, nearestIn, searchIn, treeIn}
+use Rattle.walks.specs.Demand3.{Numbered, Bare, empty, insertInto, fill, RoomFor, nearestIn, searchIn, treeIn}
 use Rattle.walks.proofs.Pruned.{Clean}
 use Rattle.walks.proofs.Rep.{graft, rep-at}
 use Rattle.walks.proofs.Filled.{Filled, Next, first, next, root-clean, root-below}
@@ -24,7 +25,7 @@ use Rattle.source.specs.Rust.{Option, None, Some}
 use Rattle.source.specs.Kdtree as source
 use Rattle.source.specs.Kdtree.{Link, kdNode, none, some, extend, newBox, grownBy, KdTree, newTree, insert, «insert_rec», nearestFrom, nearest}
 use Rattle.source_laws.specs.Drawn.{boxed, flat}
-use Rattle.source_laws.specs.Bare.{inserted, named, numberAt, SameTree}
+use Rattle.source_laws.specs.Bare.{inserted, named, numberAt, AnswersBox, SameTree}
 use Rattle.source_laws.proofs.Shapes.{flat-new, flat-extend}
 use Rattle.source_laws.proofs.Insert.{boxed-same, insert-same}
 use Rattle.source_laws.proofs.Find.{Names, nearest-names}
@@ -99,6 +100,13 @@ module _ (t : Bare) (k : KdTree) (H : Held t k) (x : Numbered) (room : whole.Roo
       boxes : Some (grownBy (k .bounds) (x .point)) ≡ Some (extend (H .box) (x .point))
       boxes = unfold grownBy in ap (λ (o : Option source.BoundingBox). Some (grownBy o (x .point))) (H .has-box)
 
+-- what an insert answered, where the trees then hold the same
+answers-box : (t : Bare) (x m : Numbered) (ms : List Numbered) (N : Next t x m ms) (k : KdTree) → Held (afterwards t x m ms N) k → AnswersBox k (insertInto t x .out)
+answers-box t x m ms N k H = record { box = H .box; has-box = H .has-box; answers = ap (λ (s : Stored). s .out) (N .is) ∙ ap Done (sym (H .corners)) }
+
+room-next : (t : Bare) → RoomFor (t .lists) (suc (t .count)) → whole.Room (t .lists) (t .count)
+room-next t r = room-now (t .lists) (t .count) (suc (t .count)) r (omega arith)
+
 -- all of them
 record Whole (t : Bare) (k : KdTree) : Type 0 where
   held : Held t k
@@ -129,6 +137,9 @@ module _ (t : Bare) (k : KdTree) (W : Whole t k) where
 
   same-tree : k .root ≡ boxed (numberAt t) (treeIn t) 0
   same-tree = H .tree ∙ ap (λ (z : Tree). boxed (numberAt t) z 0) (sym drawn-tree)
+
+  grows : (x : Numbered) → RoomFor (t .lists) (suc (t .count)) → AnswersBox (insert k (x .point) (x .number)) (insertInto t x .out)
+  grows x r = let room = room-next t r in answers-box t x (H .root) (H .others ++ (x ∷ [])) (N t k H x room) (insert k (x .point) (x .number)) (held-next t k H x room)
 
   long : whole.Readable (t .lists) (t .count)
   long = let r = W .room in record { most = r .most; positions = r .positions; left = r .left; right = r .right; numbers = r .numbers }
@@ -169,13 +180,16 @@ filled-whole a b x l r =
     (fills l (afterwards t x x [] M) (insert newTree (x .point) (x .number)) (held-first t x room refl)
     (room-kept a (M .lists) (length (x ∷ l)) (suc 0 + length l) (M .same) (omega arith) r))
 
--- THE BARE TREE IS THE SOURCE'S, for any f32: the same nodes, the same number named
+-- THE BARE TREE IS THE SOURCE'S, for any f32: the same nodes, the same box at each insert, the same number named
 pub bare : (a : Lists) (b : BoundingBox) (l : List Numbered) → RoomFor a (length l) → SameTree l (fill l (empty a b))
 bare a b [] r = nothing
   where
+    first-box : (x : Numbered) → RoomFor a 1 → AnswersBox (insert newTree (x .point) (x .number)) (insertInto (empty a b) x .out)
+    first-box x r = let room = room-next (empty a b) r in answers-box (empty a b) x x [] (first (empty a b) x room refl) (insert newTree (x .point) (x .number)) (held-first (empty a b) x room refl)
+
     nothing : SameTree [] (fill [] (empty a b))
-    nothing = unfold fill inserted newTree subtree boxed nearest nearestFrom in record { tree = refl; names = λ q. empty-names-nothing a b q }
+    nothing = unfold fill inserted newTree subtree boxed nearest nearestFrom in record { tree = refl; grows = first-box; names = λ q. empty-names-nothing a b q }
 bare a b (x ∷ l) r =
     let W = filled-whole a b x l r in
     let t = fill (x ∷ l) (empty a b) in
-    record { tree = same-tree t (inserted (x ∷ l) newTree) W; names = answers t (inserted (x ∷ l) newTree) W }
+    record { tree = same-tree t (inserted (x ∷ l) newTree) W; grows = grows t (inserted (x ∷ l) newTree) W; names = answers t (inserted (x ∷ l) newTree) W }

@@ -26,10 +26,10 @@ use Rattle.kdtree.specs.Nearest.{startAt, startOf, foundFrom, numberOf}
 use Rattle.kdtree.proofs.Nodes.{All}
 use Rattle.kdtree.proofs.Whole as whole
 use Rattle.lists.specs.Each.{Each, In}
-use Rattle.walks.specs.Demand3.{Numbered, distTo, Nearer, NotNearer, SomeNan, Reordered, Bare, empty, kept, insertInto, fill, answers, Accepted, RoomFor, nearestIn, searchIn, treeIn, standing, rootOf, walkNames, visiting, FirstNearest, Alone, Demand3}
+use Rattle.walks.specs.Demand3.{Numbered, distTo, Nearer, NotNearer, SomeNan, Reordered, Bare, empty, kept, insertInto, fill, answers, Accepted, RoomFor, nearestIn, searchIn, treeIn, standing, rootOf, walkNames, visiting, FirstNearest, Alone, NamesNearest, Demand3}
 use Rattle.points.proofs.Distance.{dist-number, dist-nan}
 use Rattle.walks.proofs.Pruned.{Agrees, prune, walk-none}
-use Rattle.walks.proofs.Lists.{each-append, each-left, each-right, each-in, each-to, each-both, each-reordered, each-ordered, in-reordered, in-ordered, in-middle, map-append}
+use Rattle.walks.proofs.Lists.{each-append, each-left, each-right, each-in, each-to, each-both, each-reordered, each-ordered, in-reordered, in-ordered, in-middle, reordered-again, map-append}
 use Rattle.walks.proofs.First.{distOf, scan, walk-scan, all-order, scan-least, Named, scan-first}
 use Rattle.walks.proofs.Rep.{rep-at}
 use Rattle.walks.proofs.Sides.{sorted-within}
@@ -345,6 +345,10 @@ module _ (a : Lists) (b : BoundingBox) (m : Numbered) (ms : List Numbered) (room
           go (inl e) = e
           go (inr h) = absurd (T-not (lt (distTo q x) (distTo q (walkNames tree q))) (each-in (λ (y : Numbered). NotNearer q y (walkNames tree q)) (m ∷ ms) x least (al .stands)) h)
 
+      -- ALL OF IT, of this tree
+      pub names-nearest : NamesNearest q (m ∷ ms) tree
+      names-nearest = record { named = names; one-of = named-one; least = least; root-one-of = inl root-is; meets = visits-all q; first-met = first-met; alone = unique }
+
 -- ---- DEMAND 3: two trees with the same measurements in two orders
 
 alone-reordered : (q : Point3) (x : Numbered) (k l : List Numbered) → Reordered k l → Alone q x k → Alone q x l
@@ -353,24 +357,31 @@ alone-reordered q x k l r al = record {
   farther = each-reordered (λ (y : Numbered). (y ≡ x) ⊎ Nearer q x y) r (al .farther);
 }
 
+nearest-reordered : (q : Point3) (k l : List Numbered) (t : Bare) → Reordered k l → NamesNearest q l t → NamesNearest q k t
+nearest-reordered q k l t r N = record {
+  named = N .named;
+  one-of = in-ordered r (walkNames t q) (N .one-of);
+  least = each-ordered (λ (x : Numbered). NotNearer q x (walkNames t q)) r (N .least);
+  root-one-of = in-ordered r (rootOf t) (N .root-one-of);
+  meets = reordered-again r (N .meets);
+  first-met = N .first-met;
+  alone = λ x al. N .alone x (alone-reordered q x k l r al);
+}
+
 pub both-orders : (a a' : Lists) (b b' : BoundingBox) (m : Numbered) (ms : List Numbered) (n : Numbered) (ns : List Numbered) (q : Point3)
     → RoomFor a (length (m ∷ ms)) → RoomFor a' (length (n ∷ ns)) → Reordered (m ∷ ms) (n ∷ ns)
     → Each (λ (x : Numbered). Finite (x .point)) (m ∷ ms) → Finite q
     → Demand3 q (m ∷ ms) (fill (m ∷ ms) (empty a b)) (fill (n ∷ ns) (empty a' b'))
 both-orders a a' b b' m ms n ns q r r' same f fq =
-    let f' = each-reordered (λ (x : Numbered). Finite (x .point)) same f in
     let t = fill (m ∷ ms) (empty a b) in
     let t' = fill (n ∷ ns) (empty a' b') in
-    let one = named-one a b m ms r q f fq in
-    let one' = named-one a' b' n ns r' q f' fq in
+    let N = names-nearest a b m ms r q f fq in
+    let N' = nearest-reordered q (m ∷ ms) (n ∷ ns) t' same (names-nearest a' b' n ns r' q (each-reordered (λ (x : Numbered). Finite (x .point)) same f) fq) in
     record {
-      named = names a b m ms r q;
-      named' = names a' b' n ns r' q;
-      alone = λ x al. (unique a b m ms r q f fq x al, unique a' b' n ns r' q f' fq x (alone-reordered q x (m ∷ ms) (n ∷ ns) same al));
-      first-met = first-met a b m ms r q f fq;
-      first-met' = first-met a' b' n ns r' q f' fq;
+      one = N;
+      other = N';
       tie = (
-        each-in (λ (x : Numbered). NotNearer q x (walkNames t' q)) (n ∷ ns) (walkNames t q) (least a' b' n ns r' q f' fq) (in-reordered same (walkNames t q) one),
-        each-in (λ (x : Numbered). NotNearer q x (walkNames t q)) (m ∷ ms) (walkNames t' q) (least a b m ms r q f fq) (in-ordered same (walkNames t' q) one'),
+        each-in (λ (x : Numbered). NotNearer q x (walkNames t' q)) (m ∷ ms) (walkNames t q) (N' .least) (N .one-of),
+        each-in (λ (x : Numbered). NotNearer q x (walkNames t q)) (m ∷ ms) (walkNames t' q) (N .least) (N' .one-of),
       );
     }

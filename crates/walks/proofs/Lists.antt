@@ -88,6 +88,24 @@ module _ {A : Type 0} where
   reordered-snoc none here = more none here
   reordered-snoc (more r p) q = let w = swap p q in more (reordered-snoc r (w .first)) (w .second)
 
+  -- one that stands somewhere in the first list stands somewhere in the second, and without it the lists have the same still
+  pub record Without (x : A) (k l : List A) : Type 0 where
+    pub rest : List A
+    pub same : Reordered k rest
+    pub back : Put x rest l
+
+  pub without : {x : A} {j k l : List A} → Put x j k → Reordered k l → Without x j l
+  without here (more r p) = record { rest = _; same = r; back = p }
+  without (there q) (more r p) =
+      let w = without q r in
+      let s = swap (w .back) p in
+      record { rest = s .middle; same = more (w .same) (s .first); back = s .second }
+
+  -- in another order, and again in another
+  pub reordered-again : {j k l : List A} → Reordered j k → Reordered k l → Reordered j l
+  reordered-again none r = r
+  reordered-again (more q p) r = let w = without p r in more (reordered-again q (w .same)) (w .back)
+
 module _ {A B : Type 0} (f : A → B) where
   pub put-map : {x : A} {k l : List A} → Put x k l → Put (f x) (map f k) (map f l)
   put-map here = here

@@ -140,13 +140,21 @@ pub record Alone (q : Point3) (m : Numbered) (l : List Numbered) : Type 0 where
   pub stands : In m l
   pub farther : Each (λ (x : Numbered). (x ≡ m) ⊎ Nearer q m x) l
 
--- DEMAND 3, of two bare trees t and t' into which the same measurements ms were inserted in two orders, and a query q: both name what their
--- unpruned walk names; where one measurement alone has the smallest distance, both name it; of several, each names the first that its
--- unpruned walk meets, the root before all, so that the two can differ only in a tie
-pub record Demand3 (q : Point3) (ms : List Numbered) (t t' : Bare) : Type 0 where
+-- One bare tree t into which the measurements ms were inserted, and a query q. What is named, by the pruned search as by the unpruned walk, is one of them,
+-- and none has a smaller distance. Root and walk meet these and no others, the walk each as often as it was inserted; the first of them that none is nearer
+-- than is named, the root before all. One that alone has the smallest distance is named, whatever the order.
+pub record NamesNearest (q : Point3) (ms : List Numbered) (t : Bare) : Type 0 where
   pub named : nearestIn t q ≡ Number (walkNames t q .number)
-  pub named' : nearestIn t' q ≡ Number (walkNames t' q .number)
-  pub alone : (m : Numbered) → Alone q m ms → (nearestIn t q ≡ Number (m .number)) × (nearestIn t' q ≡ Number (m .number))
+  pub one-of : In (walkNames t q) ms
+  pub least : Each (λ (x : Numbered). NotNearer q x (walkNames t q)) ms
+  pub root-one-of : In (rootOf t) ms
+  pub meets : Reordered ms (visiting t q)
   pub first-met : FirstNearest q (walkNames t q) (rootOf t ∷ visiting t q)
-  pub first-met' : FirstNearest q (walkNames t' q) (rootOf t' ∷ visiting t' q)
+  pub alone : (m : Numbered) → Alone q m ms → nearestIn t q ≡ Number (m .number)
+
+-- DEMAND 3, of two bare trees t and t' into which the same measurements ms were inserted in two orders, and a query q: all of the above holds of both, so that
+-- where one measurement alone has the smallest distance both name it; and what they name has one distance, so that the two can differ only in a tie
+pub record Demand3 (q : Point3) (ms : List Numbered) (t t' : Bare) : Type 0 where
+  pub one : NamesNearest q ms t
+  pub other : NamesNearest q ms t'
   pub tie : NotNearer q (walkNames t q) (walkNames t' q) × NotNearer q (walkNames t' q) (walkNames t q)
