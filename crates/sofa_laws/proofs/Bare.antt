@@ -126,6 +126,7 @@ module _ (a : Lists) (b : BoundingBox) where
       heard = record {
         counted = counted l room;
         same = same;
+        grows = λ x t' I r. let A = same .grows x r in record { box = A .box; has-box = A .has-box; answers = insert-told x tree t' I ∙ ap insertedAs (A .answers) };
         names = λ q f N. asked tree q f N ∙ ap foundAs (same .names q) ∙ named-so (nearest (inserted l newTree) q);
         nan-query = λ m ms e q n f N. asked tree q f N ∙ ap foundAs (rooted l room m ms e q n);
       }

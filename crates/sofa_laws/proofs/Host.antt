@@ -7,6 +7,8 @@ use native.Mathlib.Omega.{arith}
 use lib.ListN.{length}
 use lib.Ieee.{Float}
 use Rattle.lists.specs.Each.{Each}
+use Rattle.points.specs.declared.Point3.{Point3}
+use Rattle.points.specs.Points.{Finite}
 use Rattle.limits.specs.declared.Verdict.{Verdict}
 use Rattle.limits.specs.declared.Verdict.the-variants as verdict
 use Rattle.limits.specs.Refusals.{Check, pick, verdictOf, reasonOf, placeOf}
@@ -26,17 +28,21 @@ use Rattle.source.specs.Reader as source
 use Rattle.source.specs.Reader.{filter}
 use Rattle.source_laws.specs.Way.{Way, exactly, blending, wayIn, told}
 use Rattle.source_laws.specs.Same.{look}
-use Rattle.load_laws.specs.Load.{Given, judged, loaded, setIn, LoadsAsSource}
+use Rattle.load_laws.specs.Load.{Given, judged, loaded, setIn, portFind, LoadsAsSource}
 use Rattle.load_laws.proofs.Load.{accepted, from-load}
 use Rattle.load_laws.proofs.Domain.{accepts}
+use Rattle.load_laws.specs.Found.{FindsNearest}
+use Rattle.load_laws.proofs.Found.{found}
 use Rattle.load_laws.proofs.Loaded.{done, went}
 use Rattle.load_laws.proofs.Checks.{response-fine}
+use Rattle.sofa.specs.declared.tree.SofaFound.{SofaFound}
 use Rattle.sofa.specs.declared.set.SofaLoaded.{SofaLoaded}
 use Rattle.sofa.specs.declared.set.SofaPart.{SofaPart}
 use Rattle.sofa.specs.Tree.{point}
 use Rattle.sofa.specs.Set.{LoadedSet, locatedAs, loadedAs, partAs, aroundAs, longestAs, moveTold, filterTold}
 use Rattle.sofa.proofs.set.sofa_load.Reads as load
-use Rattle.sofa_laws.specs.Calls.{givenIn, leftIn}
+use Rattle.sofa.proofs.set.sofa_find.Reads as find
+use Rattle.sofa_laws.specs.Calls.{givenIn, leftIn, Finding}
 use Rattle.sofa_laws.specs.Host.{heardBy, PartHeard, HearsSource, LoadHeard}
 
 -- ---- no line of the table has the number 0
@@ -131,20 +137,31 @@ module _ (κs : _) (a : _) (r : SofaLoaded) (e : _) (says : load.Post κs a r e)
     fine : judged g ≡ verdict.Fine
     fine = fine-if g (sym reason-told ∙ told-fine)
 
-    pub loads-as-source : LoadsAsSource g w (r .lookup)
-    loads-as-source =
+    answers-ready : loaded g .answer ≡ Ready (r .lookup)
+    answers-ready =
         let yes = accepted g fine in
         let same = ap (λ (x : SofaLoaded). x .lookup) answer-is ∙ ap (λ (l : Loaded). loadedAs l .lookup) yes in
-        subst (λ (v : Work). LoadsAsSource g v (r .lookup)) (sym lists-are) (from-load g (r .lookup) (yes ∙ ap Ready (sym same)))
+        yes ∙ ap Ready (sym same)
+
+    pub loads-as-source : LoadsAsSource g w (r .lookup)
+    loads-as-source = subst (λ (v : Work). LoadsAsSource g v (r .lookup)) (sym lists-are) (from-load g (r .lookup) answers-ready)
+
+    finds-nearest : (q : Point3) → Finite q → FindsNearest g w (r .lookup) q
+    finds-nearest q f = subst (λ (v : Work). FindsNearest g v (r .lookup) q) (sym lists-are) (found g (r .lookup) answers-ready q f)
 
     abbrev S : LoadsAsSource g w (r .lookup)
     S = loads-as-source
+
+    find-says : (q : Point3) (κs : _) (a : _) (o : SofaFound) (e : _) → Finding g r w q κs a → find.Post κs a o e → o ≡ locatedAs (portFind g w (r .lookup) q)
+    find-says q κs a o e A p = p ∙ (λ i. locatedAs (findOf (A .look i) (A .sizes i) (A .cartesian i) (A .left i) (A .right i) (point (A .x i) (A .y i) (A .z i))))
 
     -- AND HEARS its answers: each contract says the definition of the call at the call's arguments, which are these
     pub hears : HearsSource g r w
     hears = record {
       loads = S;
-      finds = λ q f κs a o e A p. p ∙ (λ i. locatedAs (findOf (A .look i) (A .sizes i) (A .cartesian i) (A .left i) (A .right i) (point (A .x i) (A .y i) (A .z i)))) ∙ ap locatedAs (S .port-finds q f);
+      finds = λ q f κs a o e A p. find-says q κs a o e A p ∙ ap locatedAs (S .port-finds q f);
+      nearest = finds-nearest;
+      names-nearest = λ q f κs a o e A p. find-says q κs a o e A p ∙ ap locatedAs (finds-nearest q f .finds);
       moves = λ l f κs a o e A p. p ∙ (λ i. moveTold (findMutOf (A .look i) (A .sizes i) (A .cartesian i) (A .left i) (A .right i) (A .coordinate i))) ∙ ap moveTold (S .port-moves l f);
       filters = λ q f out κs a o e A p.
           p ∙ (λ i. filterTold (filterSays (A .sizes i) (A .look i) (A .cartesian i) (A .left i) (A .right i) (A .neighbours i) (A .responses i) (A .delays i) (A .rate i)

@@ -10,9 +10,11 @@ use borrow.Fn.World.{ArgsD}
 use denote.Triple.Clauses.{AtExit}
 use Rattle.points.specs.declared.Point3.{Point3}
 use Rattle.kdtree.specs.Insert.{Lists, listsOf}
-use Rattle.walks.specs.Demand3.{Numbered, SomeNan, Bare, walkNames, Alone, Demand3}
+use Rattle.walks.specs.Demand3.{Numbered, SomeNan, Bare, RoomFor, walkNames, Alone, Demand3}
 use Rattle.source.specs.Rust.{Option, None, Some}
-use Rattle.source.specs.Kdtree.{newTree, nearest}
+use Rattle.source.specs.Kdtree as source
+use Rattle.source.specs.Kdtree.{KdTree, newTree, nearest}
+use Rattle.source_laws.specs.Drawn.{flat}
 use Rattle.source_laws.specs.Bare.{inserted, SameTree}
 use Rattle.sofa.specs.declared.tree.SofaInserted.{SofaInserted}
 use Rattle.sofa.specs.declared.tree.SofaFound.{SofaFound}
@@ -76,11 +78,18 @@ abbrev pub nameHeard : Option ℕ → SofaFound
 nameHeard None = numbered 65535
 nameHeard (Some number) = numbered number
 
--- DEMAND 2, of the tree t after the inserts of l, for any f32: none was refused, the nodes are the source's, and each query is answered as the source answers it; one
--- with a NaN by the root's number
+-- an insert answered the box of the source's tree k, corner by corner
+pub record BoxHeard (k : KdTree) (r : SofaInserted) : Type 0 where
+  pub box : source.BoundingBox
+  pub has-box : k .bounds ≡ Some box
+  pub answers : r ≡ record { reason = 0; place = 0; bounds = flat box }
+
+-- DEMAND 2, of the tree t after the inserts of l, for any f32: none was refused, the nodes are the source's, one more insert with room answers the source's box, and
+-- each query is answered as the source answers it; one with a NaN by the root's number
 pub record BareHeard (l : List Numbered) (t : Bare) : Type 0 where
   pub counted : t .count ≡ length l
   pub same : SameTree l t
+  pub grows : (x : Numbered) (t' : Bare) (I : InsertCall x t t') → RoomFor (t .lists) (suc (t .count)) → BoxHeard (source.insert (inserted l newTree) (x .point) (x .number)) (I .r)
   pub names : (q : Point3) (f : SofaFound) → NearestCall t q f → f ≡ nameHeard (nearest (inserted l newTree) q)
   pub nan-query : (m : Numbered) (ms : List Numbered) → l ≡ m ∷ ms → (q : Point3) → SomeNan q → (f : SofaFound) → NearestCall t q f → f ≡ numbered (m .number)
 

@@ -20,6 +20,7 @@ use Rattle.source_laws.specs.Way.{Way, exactly, blending, wayIn}
 use Rattle.limits.specs.Refusals.{reasonOf, placeOf}
 use Rattle.load_laws.specs.Load.{Given, judged, LoadsAsSource}
 use Rattle.load_laws.specs.Domain.{Domain}
+use Rattle.load_laws.specs.Found.{FindsNearest}
 use Rattle.sofa.specs.declared.SofaValue.{SofaValue}
 use Rattle.sofa.specs.declared.tree.SofaFound.{SofaFound}
 use Rattle.sofa.specs.declared.set.SofaLoaded.{SofaLoaded}
@@ -74,6 +75,9 @@ pub record PartHeard (xs : List Float) (n : ℕ) (taps : List Float) (p : SofaPa
 pub record HearsSource (g : Given) (r : SofaLoaded) (w : Work) : Type 0 where
   pub loads : LoadsAsSource g w (r .lookup)
   pub finds : (q : Point3) → Finite q → (κs : _) (a : _) (f : SofaFound) (e : _) → Finding g r w q κs a → find.Post κs a f e → f ≡ numbered (loads .number q)
+  -- demand 3: the measurement whose number it hears is the nearest (load_laws specs/Found.antt)
+  pub nearest : (q : Point3) → Finite q → FindsNearest g w (r .lookup) q
+  pub names-nearest : (q : Point3) (h : Finite q) (κs : _) (a : _) (f : SofaFound) (e : _) → Finding g r w q κs a → find.Post κs a f e → f ≡ numbered (nearest q h .found)
   pub moves : (l : List Float) → Finite (pointIn l) → (κs : _) (a : _) (f : SofaFound) (e : _) → Moving g r w l κs a → find-mut.Post κs a f e
       → movedBy f (e .1 .1 .1 .1 .1 .0 .now) ≡ movedBy (numbered (loads .number (pointIn l))) (putPoint l (loads .moved (pointIn l)))
   pub filters : (q : Point3) → Finite q → (out : source.Filter) (κs : _) (a : _) (f : SofaFiltered) (e : _) → Filtering g r w q out κs a → blend.Post κs a f e
