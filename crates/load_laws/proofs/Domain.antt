@@ -1,7 +1,8 @@
 -- Every input in document 01's domain is accepted, and so answered as the source answers. Assumes nothing.
 use mathlib.Core.Path.{_≡_, refl, ap, _∙_}
 use mathlib.Core.Bool.{Bool, true, false, not, _&&_}
-use Prim.Native.Nat.{ℕ, zero, suc, _*_, _%_, _<_}
+use mathlib.Core.List.{List}
+use Prim.Native.Nat.{ℕ, zero, suc, _*_, _%_, _≤_, _<_}
 use native.Mathlib.Omega.{arith}
 use lib.Dec.{eqb, ltb}
 use lib.ListN.{length, getD}
@@ -38,6 +39,20 @@ position-true (suc zero) i x h p = go (eqb (i % 3) 2) refl
     go false e = rw e (between-true _ _ x (p .angle refl (eqb-false (i % 3) 2 e)))
 position-true (suc (suc k)) i x h p = absurd (omega arith)
 
+-- where the first n values are allowed, the first that is not is past them
+pub values-allowed : (kind : ℕ) (xs : List Float) (n : ℕ) → kind < 2 → n ≤ length xs → ((i : ℕ) → i < n → Position kind i (getD xs i nan)) → ltb (firstBad (positionOk kind) xs n) n ≡ false
+values-allowed kind xs n known room allowed = go (ltb bad n) refl
+  where
+    bad : ℕ
+    bad = firstBad (positionOk kind) xs n
+
+    no : {b : Bool} → b ≡ true → b ≡ false → ⊥
+    no p q = let z : _≡_ {A = ℕ} 0 1 = cc in omega arith
+
+    go : (b : Bool) → ltb bad n ≡ b → b ≡ false
+    go false e = refl
+    go true e = let l = ltb-true bad n e in absurd (no (position-true kind bad (getD xs bad nan) known (allowed bad l)) (bad-there (positionOk kind) xs n room l))
+
 -- a test that holds is no line that is met
 unmet : {b : Bool} → b ≡ true → not b ≡ false
 unmet e = ap not e
@@ -55,21 +70,8 @@ module _ (g : Given) (D : Domain g) where
       both (eq-eqb (length (g .positions)) (3 * g .sizes .m) (D .positions))
       (both (both (both (both (le-leb _ _ (D .cartesian)) (le-leb _ _ (D .left))) (le-leb _ _ (D .right))) (le-leb _ _ (D .responses))) (le-leb _ _ (D .neighbours)))
 
-  -- the first value that is not allowed is past the end
-  abbrev bad : ℕ
-  bad = firstBad (positionOk (g .kind)) (g .positions) (length (g .positions))
-
-  values-ok : ltb bad (length (g .positions)) ≡ false
-  values-ok = go (ltb bad (length (g .positions))) refl
-    where
-      no : {b : Bool} → b ≡ true → b ≡ false → ⊥
-      no p q = let z : _≡_ {A = ℕ} 0 1 = cc in omega arith
-
-      go : (b : Bool) → ltb bad (length (g .positions)) ≡ b → b ≡ false
-      go false e = refl
-      go true e =
-          let l = ltb-true bad (length (g .positions)) e in
-          absurd (no (position-true (g .kind) bad (getD (g .positions) bad nan) (D .kind) (D .values bad l)) (bad-there (positionOk (g .kind)) (g .positions) (length (g .positions)) (omega arith) l))
+  values-ok : ltb (firstBad (positionOk (g .kind)) (g .positions) (length (g .positions))) (length (g .positions)) ≡ false
+  values-ok = values-allowed (g .kind) (g .positions) (length (g .positions)) (D .kind) (omega arith) (D .values)
 
   fine : judged g ≡ Fine
   fine =

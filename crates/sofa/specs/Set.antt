@@ -1,10 +1,11 @@
 -- A set at the C border: document 01's number and values for each case of an answer. Definitions only.
 use Prim.Native.Nat.{ℕ}
 use mathlib.Core.List.{List}
+use mathlib.Core.Bool.{cond}
 use lib.Ieee.{Float}
 use Rattle.floats.specs.Floats.{zero32}
 use Rattle.delays.specs.declared.Outcome.{Outcome}
-use Rattle.delays.specs.declared.Outcome.the-variants as outcome
+use Rattle.delays.specs.Delays.{answerOf}
 use Rattle.lookup.specs.declared.Lookup.{Lookup}
 use Rattle.lookup.specs.declared.Located.{Located}
 use Rattle.lookup.specs.declared.Located.the-variants as located
@@ -49,11 +50,9 @@ abbrev pub loadedAs : Loaded → SofaLoaded
 loadedAs (loaded.Ready look) = record { reason = 0; place = 0; lookup = look }
 loadedAs (loaded.Refused n p) = record { reason = n; place = p; lookup = noLookup }
 
--- exact: one point; blended: so many points; refused: no points, and both delays +0
+-- the fields of `answerOf` (crate delays), which says what each case of an outcome is; blended is 1 or 0
 abbrev pub filteredAs : Outcome → SofaFiltered
-filteredAs (outcome.Exact l r) = record { reason = 0; place = 0; blended = 0; points = 1; ldelay = l .0; rdelay = r .0 }
-filteredAs (outcome.Blended l r n) = record { reason = 0; place = 0; blended = 1; points = n; ldelay = l .0; rdelay = r .0 }
-filteredAs (outcome.Refused n p) = record { reason = n; place = p; blended = 0; points = 0; ldelay = zero32; rdelay = zero32 }
+filteredAs o = let a = answerOf o in record { reason = a .reason; place = a .place; blended = cond (a .blended) 1 0; points = a .points; ldelay = a .left .0; rdelay = a .right .0 }
 
 -- refused, the part is empty
 abbrev pub partAs : Part → SofaPart

@@ -5,16 +5,17 @@
 // say what stands for each case: Border for the angles and the version, Tree for the bare tree (tree.rt), Convert for
 // the conversions (convert.rt), Set for a set (set.rt).
 //
-// proofs/Unique.antt: no contract here leaves a choice, proved of each function's own contract.
+// proofs/Unique.antt: no contract here leaves a choice, proved of each function's own contract. The
+// modules are public so that the crate sofa_laws can cite those contracts too.
 ghost use mathlib.Core.Path.{_≡_};
 ghost use Rattle.root.specs.Root.{rootOf};
 ghost use Rattle.angles.specs.Says.{sineSays, cosineSays, arctanSays};
 ghost use Rattle.sofa.specs.Border.{valueOf, versionNumber};
 use angles::Answer;
 
-mod convert;
-mod set;
-mod tree;
+pub mod convert;
+pub mod set;
+pub mod tree;
 
 #[no_mangle]
 pub extern "C" fn sofa_version() -> u32

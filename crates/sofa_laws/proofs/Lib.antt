@@ -1,1 +1,3 @@
 pub mod Host
+pub mod Bare
+pub mod Numbers

@@ -1,1 +1,4 @@
+pub mod Calls
 pub mod Host
+pub mod Bare
+pub mod Numbers
