@@ -1,0 +1,39 @@
+# make              proves and builds the archive, target/staticlib/libsofa.a
+# make install      puts it below PREFIX, with the header, a pkg-config file, a CMake package and the licences
+# make uninstall    takes these away again
+# make check        the tests of the hosts over the archive
+#
+# The package is called bondaskrig, and header and archive stand in folders of that name: another sofa.h (of the astronomers' SOFA) or libsofa may
+# be installed beside it. Only a proved archive is installed.
+PREFIX ?= /usr/local
+LIBDIR ?= $(PREFIX)/lib
+INCLUDEDIR ?= $(PREFIX)/include
+DOCDIR ?= $(PREFIX)/share/doc/bondaskrig
+DESTDIR ?=
+
+SHELL := bash
+version := $(shell sed -nE 's/^\#define SOFA_VERSION_(MAJOR|MINOR|PATCH) ([0-9]+)$$/\2/p' include/sofa.h | paste -sd.)
+archive := target/staticlib/libsofa.a
+package := $(DESTDIR)$(LIBDIR)/cmake/bondaskrig
+fill := sed -e 's|@PREFIX@|$(abspath $(PREFIX))|' -e 's|@LIBDIR@|$(abspath $(LIBDIR))|' \
+    -e 's|@INCLUDEDIR@|$(abspath $(INCLUDEDIR))|' -e 's|@VERSION@|$(version)|'
+
+.PHONY: all install uninstall check
+all:
+	@. tests/tools && archive target/log/sofa.steps
+
+install: all
+	@grep -qaF 'rattle logic=' $(archive) || { echo "install: $(archive) is not a proved one" >&2; exit 1; }
+	install -d $(DESTDIR)$(INCLUDEDIR)/bondaskrig $(DESTDIR)$(LIBDIR)/bondaskrig $(DESTDIR)$(LIBDIR)/pkgconfig $(package) $(DESTDIR)$(DOCDIR)
+	install -m 644 include/sofa.h $(DESTDIR)$(INCLUDEDIR)/bondaskrig/sofa.h
+	install -m 644 $(archive) $(DESTDIR)$(LIBDIR)/bondaskrig/libsofa.a
+	$(fill) install/bondaskrig.pc.in > $(DESTDIR)$(LIBDIR)/pkgconfig/bondaskrig.pc
+	$(fill) install/bondaskrig-config.cmake.in > $(package)/bondaskrig-config.cmake
+	$(fill) install/bondaskrig-config-version.cmake.in > $(package)/bondaskrig-config-version.cmake
+	install -m 644 LICENSE LICENSE-MIT LICENSE-APACHE NOTICE $(DESTDIR)$(DOCDIR)
+
+uninstall:
+	rm -rf $(DESTDIR)$(INCLUDEDIR)/bondaskrig $(DESTDIR)$(LIBDIR)/bondaskrig $(DESTDIR)$(LIBDIR)/pkgconfig/bondaskrig.pc $(package) $(DESTDIR)$(DOCDIR)
+
+check: all
+	tests/hosts
