@@ -12,7 +12,7 @@ DOCDIR ?= $(PREFIX)/share/doc/bondaskrig
 DESTDIR ?=
 
 SHELL := bash
-version := $(shell sed -nE 's/^\#define SOFA_VERSION_(MAJOR|MINOR|PATCH) ([0-9]+)$$/\2/p' include/sofa.h | paste -sd.)
+version := $(shell . .ci/steps && header_version)
 archive := target/staticlib/libsofa.a
 package := $(DESTDIR)$(LIBDIR)/cmake/bondaskrig
 fill := sed -e 's|@PREFIX@|$(abspath $(PREFIX))|' -e 's|@LIBDIR@|$(abspath $(LIBDIR))|' \
