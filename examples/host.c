@@ -14,6 +14,7 @@ static const float rate = 48000;
 static uint16_t left[M], right[M], neighbours[6 * M];
 static float cartesian[3 * M];
 
+/* This thread has C's own floating-point environment. An audio thread has `sofa_enter` before its calls and `sofa_leave` behind them. */
 static void ask(sofa_sizes sizes, sofa_lookup lookup, float x, float y, float z) {
     float out_left[N], out_right[N];
     sofa_filtered f = sofa_filter(sizes, lookup, cartesian, 3 * M, left, M, right, M, neighbours, 6 * M, responses, M * R * N,

@@ -654,6 +654,8 @@ static void check_size_ends(void) {
     check_allowed("the last number", NUMBER | PARTS | SIX, &a);
     a.count = 0;
     check(sofa_tree_nearest(0, a.lookup.box, TREE(&a), LEND_SHORTS(&a, NUMBERS), 0, 0, 0).number == SOFA_ABSENT, "tree_nearest", "empty", 0, 0);
+    SHORTS(&a, NUMBERS)[0] = SOFA_ABSENT; /* a place may keep it: the count alone tells this tree from an empty one */
+    check(sofa_tree_nearest(1, a.lookup.box, TREE(&a), LEND_SHORTS(&a, NUMBERS), 0, 0, 0).number == SOFA_ABSENT, "tree_nearest", "65535 kept", 0, 0);
     check_allowed("an empty tree", INSERT | NEAREST, &a);
 }
 
