@@ -9,6 +9,9 @@
 #[path = "../oracle/port.rs"]
 #[allow(dead_code)]
 mod port;
+#[path = "../oracle/real.rs"]
+#[allow(dead_code)]
+mod real;
 mod measure;
 #[cfg(mysofa)]
 mod mysofa;

@@ -18,8 +18,11 @@ pub fn each(timed: bool, whole: bool, only: &str, take: &mut dyn FnMut(&mut Row)
     blend(take);
     for m in if timed { vec![1000, 4000, 16384] } else { vec![1000] } {
         for set in [sets::sphere(m), sets::grid(m)] {
-            of_set(set, only, take);
+            of_set(&[128, 512].map(|n| set.clone().taps(n)), only, take);
         }
+    }
+    if let Some(set) = sets::measured() {
+        of_set(&[set], only, take);
     }
     if whole {
         growth(only, take);
@@ -140,18 +143,19 @@ fn agree(set: &Set, sides: &mut Sides, queries: &[[f32; 3]]) {
 /// Different queries in a round, as a head that turns asks them; `find again` asks the same 64 in every round, to show whether a processor gains by learning them.
 const QUERIES: usize = 4096;
 
-fn of_set(set: Set, only: &str, take: &mut dyn FnMut(&mut Row)) {
-    let label = format!("{} M={}", set.name, set.m);
+/// One set, with responses of one length or of several.
+fn of_set(lengths: &[Set], only: &str, take: &mut dyn FnMut(&mut Row)) {
+    let label = format!("{} M={}", lengths[0].name, lengths[0].m);
     let names = ["load", "find", "filter", "plain"].map(|kind| format!("{kind} {label} N=128 N=512"));
     if !names.iter().any(|name| name.contains(only)) {
         return;
     }
     let queries = sets::queries(QUERIES, 5);
-    for n in [128, 512] {
-        let set = set.clone().taps(n);
-        let mut sides = sides_of(&set);
-        agree(&set, &mut sides, &queries);
-        if n == 128 {
+    for (i, set) in lengths.iter().enumerate() {
+        let n = set.n;
+        let mut sides = sides_of(set);
+        agree(set, &mut sides, &queries);
+        if i == 0 {
             take(&mut sides_row(format!("load {label}"), 1, 4 + 40000 / set.m, &mut sides, |s| s.load()));
             take(&mut sides_row(format!("find {label}"), QUERIES, 24, &mut sides, |s| {
                 for q in &queries {

@@ -57,6 +57,12 @@ impl Set {
     }
 }
 
+/// The measured set that oracle/real.c wrote to $SOFA_MEASURED, where there is one.
+pub fn measured() -> Option<Set> {
+    let crate::real::Real { m, n, kind, positions, responses, delays, rate, .. } = crate::real::read(&std::env::var("SOFA_MEASURED").ok()?);
+    Some(Set { name: "measured", kind, m, n, positions, responses, delays, angle_step: 0.5, radius_step: 0.01, rate })
+}
+
 /// Directions at random, one radius.
 pub fn sphere(m: usize) -> Set {
     let mut r = Random(m as u64);
