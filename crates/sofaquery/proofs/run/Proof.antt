@@ -7,6 +7,8 @@ use native.Mathlib.Omega.{arith}
 use lib.Dec.{T}
 use lib.ListN.{length, take, drop}
 use lib.Seq.{length-take-le}
+use mir.Syntax.{w64}
+use mir.Val.{toZ, ofZ}
 use Rattle.lines.specs.Machine.{At}
 use Rattle.queries.specs.declared.Run.{Run}
 use Rattle.queries.specs.Program.{Session}
@@ -74,13 +76,15 @@ loop-again : tie.Need-loop-again Inv-loop μ-loop
 loop-again c =
     let l = c .before .before .before .before .before .before .before .before .before .before .before .before .before .before .before .before .before .before .before .before .before .before .loop in
     let told = c .before .before .before .before .advance in
+    -- what this very call answered
+    let ok = c .before .write .result in
     let e = c .after-write .ensures in
     let room : l .went .have ≤ length (l .chunk) = omega (arith, l .inv .1, l .inv .2) in
     let fewer : l .calls ≡ l .calls - 1 + 1 = omega (arith, c .before .before .before .before .before .before .before .before .before .before .before .before .before .before .before .before .before .before .before .before .before .loop-test .taken) in
     let inside : l .went .at < l .went .have = c .before .before .before .before .before .before .before .before .before .before .before .before .before .before .before .before .before .if2 .taken in
     let going : goesOn (l .went .flow) ≡ true = sym (c .before .before .before .before .before .before .before .before .before .before .before .before .before .before .before .before .before .before .before .before .goes-on .ensures) ∙ c .before .before .before .before .before .before .before .before .before .before .before .before .before .before .before .before .before .before .before .if1 .taken in
     let place : Run → At Session = λ r. here r (told .last .1 .1 .0) (told .last .1 .1 .1 .1 .0) (told .last .1 .1 .1 .1 .1 .0) (told .last .1 .1 .1 .1 .1 .1 .0) (told .last .1 .1 .1 .1 .1 .1 .1 .0) (told .last .1 .1 .1 .1 .1 .1 .1 .1 .0) (told .last .1 .1 .1 .1 .1 .1 .1 .1 .1 .0) (told .last .1 .1 .1 .1 .1 .1 .1 .1 .1 .1 .0) in
-    (subst Sound (sym (write-run _ _ _ _ _ e)) (told .ensures .sound), subst (λ (n : ℕ). n ≤ 65536) (sym (write-have _ _ _ _ _ e)) (l .inv .1), l .inv .2, line-more _ _ fewer _ (l .chunk) _ _ room _ (l .inv .3) going inside place _ _ (told .ensures .place) (told .ensures .left) refl _ _ e)
+    (subst Sound (sym (write-run _ _ _ _ _ e)) (told .ensures .sound), subst (λ (n : ℕ). n ≤ 65536) (sym (write-have _ _ _ _ _ e)) (l .inv .1), l .inv .2, line-more _ _ fewer _ (l .chunk) _ _ room _ (l .inv .3) going inside place _ _ (told .ensures .place) (told .ensures .left) refl ok _ e)
 
 slice-aggregate-read : tie.Need-slice-aggregate-read Inv-loop μ-loop
 slice-aggregate-read c = search needs
@@ -97,13 +101,16 @@ loop-less-2 c = omega (arith, c .before .before .before .before .before .before 
 loop-again-2 : tie.Need-loop-again-2 Inv-loop μ-loop
 loop-again-2 c =
     let l = c .before .before .before .before .before .before .before .before .before .before .loop in
+    -- what this very call answered, and left in the chunk
+    let got = toZ w64 (ofZ w64 (c .before .before .before .read .result)) in
+    let bytes = c .before .before .before .read .last .1 .0 in
     let e = c .after-read .ensures in
     let room : l .went .have ≤ length (l .chunk) = omega (arith, l .inv .1, l .inv .2) in
     let fewer : l .calls ≡ l .calls - 1 + 1 = omega (arith, c .before .before .before .before .before .before .before .before .before .loop-test .taken) in
     let used : l .went .have ≤ l .went .at = c .before .before .before .before .before .if2 .left in
     let going : goesOn (l .went .flow) ≡ true = sym (c .before .before .before .before .before .before .before .before .goes-on .ensures) ∙ c .before .before .before .before .before .before .before .if1 .taken in
     let place : Run → At Session = λ r. here r (l .buf) (l .positions) (l .responses) (l .delays) (l .left) (l .right) (l .neighbours) (l .cartesian) in
-    (subst Sound (sym (read-run _ _ _ e)) (l .inv .0), read-have _ _ _ e, search needs, chunk-more _ _ fewer _ (l .chunk) _ _ room _ (l .inv .3) going used place _ refl _ _ _ e)
+    (subst Sound (sym (read-run _ _ _ e)) (l .inv .0), read-have _ _ _ e, search needs, chunk-more _ _ fewer _ (l .chunk) _ _ room _ (l .inv .3) going used place _ refl got bytes _ e)
 
 returns : tie.Need-returns Inv-loop μ-loop
 returns c =
