@@ -15,14 +15,14 @@ use Rattle.lines.specs.Machine.{At}
 use Rattle.setread.specs.Text.{joined}
 use Rattle.queries.specs.declared.Phase.{Phase}
 use Rattle.queries.specs.declared.Run.{Run}
-use Rattle.queries.specs.Program.{Session, isOver, closing, outputOf}
+use Rattle.queries.specs.Program.{Session, isOver, Ears, closing, outputOf}
 use Rattle.queries.specs.Machine.{advanceOf, Makes}
 use Rattle.queries.specs.Machine.Makes.{done, next, goes}
 use Rattle.queries.proofs.Whole.{program}
 use Rattle.sofaquery.specs.declared.Flow.{Flow}
 use Rattle.sofaquery.specs.declared.Flow.the-variants.{More, Ended, Unread, Unwritten}
 use Rattle.sofaquery.specs.declared.Went.{Went}
-use Rattle.sofaquery.specs.Calls.{goesOn, readFlow, afterRead, writeFlow, afterWrite, Stand, standAt, usedUp, reading, turnOf, writing, Call, read, write, Ran, none, reads, turns, startStand, Made, readIn, writtenIn}
+use Rattle.sofaquery.specs.Calls.{goesOn, readFlow, afterRead, writeFlow, afterWrite, Held, held, heldAfter, Stand, standAt, usedUp, reading, turnOf, writing, Call, read, write, Ran, none, reads, turns, startStand, Made, readIn, writtenIn}
 
 -- ---- by what a call answered
 
@@ -114,8 +114,11 @@ module _ (t : Run) (to have : ℕ) (ok : Bool) where
     unfolding afterWrite
     write-have = ap (λ (w : Went). w .have) e
 
+pub same-held : {a b : At Session} {e f : Ears} {o p : List ℕ} → a ≡ b → e ≡ f → o ≡ p → held a e o ≡ held b f p
+same-held x y z = cc
+
 -- a call more, over the bytes of the chunk that it has, from a place on
-module _ (left left′ : ℕ) (fewer : left ≡ left′ + 1) (a : At Session) (chunk : List ℕ) (have at : ℕ) (room : have ≤ length chunk) (flow : Flow)
+module _ (left left′ : ℕ) (fewer : left ≡ left′ + 1) (a : Held) (chunk : List ℕ) (have at : ℕ) (room : have ≤ length chunk) (flow : Flow)
     (m : Made left (standAt a (drop at (take have chunk)) flow)) (going : goesOn flow ≡ true) where
   len : length (take have chunk) ≡ have
   len = length-take-le have chunk room
@@ -123,25 +126,25 @@ module _ (left left′ : ℕ) (fewer : left ≡ left′ + 1) (a : At Session) (c
   used : (n : ℕ) → usedUp (drop n (take have chunk)) ≡ leb have n
   used n = used-drop (take have chunk) n ∙ ap (λ (k : ℕ). leb k n) len
 
-  pub chunk-more : have ≤ at → (place : Run → At Session) (t : Run) → place t ≡ a → (got : ℤ) (bytes : List ℕ) (w : Went) → w ≡ afterRead t got
+  pub chunk-more : have ≤ at → (place : Run → Held) (t : Run) → place t ≡ a → (got : ℤ) (bytes : List ℕ) (w : Went) → w ≡ afterRead t got
       → Made left′ (standAt (place (w .run)) (drop (w .at) (take (w .have) bytes)) (w .flow))
   unfolding afterRead
   chunk-more h place t p got bytes w e =
       let m1 : Made left′ (standAt a (take (clamped got 65536) bytes) (readFlow got)) = read-more left left′ fewer m going got bytes (used at ∙ le-leb have at h) in
-      let m2 : Made left′ (standAt (place t) (take (clamped got 65536) bytes) (readFlow got)) = subst (λ (b : At Session). Made left′ (standAt b (take (clamped got 65536) bytes) (readFlow got))) (sym p) m1 in
+      let m2 : Made left′ (standAt (place t) (take (clamped got 65536) bytes) (readFlow got)) = subst (λ (b : Held). Made left′ (standAt b (take (clamped got 65536) bytes) (readFlow got))) (sym p) m1 in
       subst (λ (w : Went). Made left′ (standAt (place (w .run)) (drop (w .at) (take (w .have) bytes)) (w .flow))) (sym e) m2
 
-  pub line-more : at < have → (place : Run → At Session) (t : Run) (to : ℕ) → place t ≡ advanceOf 40000 a (drop at (take have chunk)) .place → drop to (take have chunk) ≡ advanceOf 40000 a (drop at (take have chunk)) .left
-      → place t .known .phase ≡ t .phase → (ok : Bool) (w : Went) → w ≡ afterWrite t to have ok → Made left′ (standAt (place (w .run)) (drop (w .at) (take (w .have) chunk)) (w .flow))
+  pub line-more : at < have → (place : Run → Held) (t : Run) (to : ℕ) → place t ≡ heldAfter a (drop at (take have chunk)) → drop to (take have chunk) ≡ advanceOf 40000 (a .place) (drop at (take have chunk)) .left
+      → place t .place .known .phase ≡ t .phase → (ok : Bool) (w : Went) → w ≡ afterWrite t to have ok → Made left′ (standAt (place (w .run)) (drop (w .at) (take (w .have) chunk)) (w .flow))
   unfolding afterWrite
   line-more h place t to e f p ok w said =
-      let on : At Session → List ℕ → Bool → Phase → Type 0 = λ z l u f. Made left′ (standAt z l (writeFlow ok (u && isOver f))) in
-      let v = advanceOf 40000 a (drop at (take have chunk)) in
+      let on : Held → List ℕ → Bool → Phase → Type 0 = λ z l u f. Made left′ (standAt z l (writeFlow ok (u && isOver f))) in
+      let v = advanceOf 40000 (a .place) (drop at (take have chunk)) in
       let rest = drop to (take have chunk) in
-      let m1 : on (v .place) (v .left) (usedUp (v .left)) (v .place .known .phase) = turn-more left left′ fewer m going ok (used at ∙ lt-leb have at h) in
-      let m2 : on (place t) (v .left) (usedUp (v .left)) (place t .known .phase) = subst (λ (z : At Session). on z (v .left) (usedUp (v .left)) (z .known .phase)) (sym e) m1 in
-      let m3 : on (place t) rest (usedUp rest) (place t .known .phase) = subst (λ (l : List ℕ). on (place t) l (usedUp l) (place t .known .phase)) (sym f) m2 in
-      let m4 : on (place t) rest (leb have to) (place t .known .phase) = subst (λ (u : Bool). on (place t) rest u (place t .known .phase)) (used to) m3 in
+      let m1 : on (heldAfter a (drop at (take have chunk))) (v .left) (usedUp (v .left)) (v .place .known .phase) = turn-more left left′ fewer m going ok (used at ∙ lt-leb have at h) in
+      let m2 : on (place t) (v .left) (usedUp (v .left)) (place t .place .known .phase) = subst (λ (z : Held). on z (v .left) (usedUp (v .left)) (z .place .known .phase)) (sym e) m1 in
+      let m3 : on (place t) rest (usedUp rest) (place t .place .known .phase) = subst (λ (l : List ℕ). on (place t) l (usedUp l) (place t .place .known .phase)) (sym f) m2 in
+      let m4 : on (place t) rest (leb have to) (place t .place .known .phase) = subst (λ (u : Bool). on (place t) rest u (place t .place .known .phase)) (used to) m3 in
       let m5 : on (place t) rest (leb have to) (t .phase) = subst (on (place t) rest (leb have to)) p m4 in
       subst (λ (w : Went). Made left′ (standAt (place (w .run)) (drop (w .at) (take (w .have) chunk)) (w .flow))) (sym said) m5
 
@@ -177,7 +180,7 @@ empty [] e = refl
 empty (x ∷ xs) e = absurd (subst T (sym e) tt)
 
 -- they are turns of the machine over what was read
-makes : {a z : Stand} {cs : List Call} → Ran a cs z → z .rest ≡ [] → Makes 40000 (a .place) (a .rest ∷ readIn cs) (writtenIn cs) (z .place)
+makes : {a z : Stand} {cs : List Call} → Ran a cs z → z .rest ≡ [] → Makes 40000 (a .held .place) (a .rest ∷ readIn cs) (writtenIn cs) (z .held .place)
 unfolding readIn writtenIn
 makes none e = rw e (next done)
 makes {a} (reads {cs = cs} got bytes h u m) e = rw (empty (a .rest) u) (next (makes m e))
@@ -185,6 +188,6 @@ makes (turns ok h u m) e = goes (makes m e)
 
 -- Where the program ends with the text: what it was to write, and then what it writes last, is the output that document 01 gives what it read
 pub whole-output : {calls : List Call} {z : Stand} → Ran startStand calls z → z .flow ≡ Ended
-    → writtenIn calls ++ closing (z .place .known .phase) (z .place .have) ≡ outputOf (joined (readIn calls))
+    → writtenIn calls ++ closing (z .held .place .known .phase) (z .held .place .have) ≡ outputOf (joined (readIn calls))
 unfolding joined
 whole-output {z = z} m e = program (makes m (empty (z .rest) (all-read m (λ _. refl) e)))

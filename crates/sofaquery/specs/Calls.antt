@@ -5,16 +5,18 @@ use mathlib.Core.Bool.{Bool, true, false, _&&_}
 use mathlib.Core.List.{List, [], _∷_, _++_}
 use lib.Dec.{leb}
 use lib.IntN.{ℤ, pos, negsuc}
-use lib.ListN.{length, take, drop}
+use lib.ListN.{length, take, replicate}
 use lib.Ieee.{Float}
+use Rattle.floats.specs.Floats.{zero32}
+use Rattle.lists.specs.Over.{over}
 use Rattle.io.specs.Counts.{clamped}
 use Rattle.lines.specs.Machine.{At}
 use Rattle.settext.specs.Lines.{Lists}
 use Rattle.loads.specs.Load.{Work, workOf}
 use Rattle.queries.specs.declared.Run.{Run}
-use Rattle.queries.specs.Program.{Session, listsOf, isOver, closing, begun, noLists, noWork}
+use Rattle.queries.specs.Program.{Session, listsOf, isOver, Ears, earsOf, closing, begun, noLists, noWork}
 use Rattle.queries.specs.Sound.{Sound}
-use Rattle.queries.specs.Machine.{Advance, startRun, between, placeOf, advanceOf}
+use Rattle.queries.specs.Machine.{Advance, startRun, between, placeOf, advanceOf, advanceEars}
 use Rattle.sofaquery.specs.declared.Flow.{Flow}
 use Rattle.sofaquery.specs.declared.Flow.the-variants.{More, Ended, Unread, Unwritten}
 use Rattle.sofaquery.specs.declared.Went.{Went}
@@ -68,21 +70,37 @@ endOf Unwritten ok = Unwritten
 
 -- ---- call after call
 
--- the machine's place by the program's lists
-abbrev pub here : Run → List ℕ → List Float → List Float → List Float → List ℕ → List ℕ → List ℕ → List Float → At Session
-here t buf positions responses delays left right neighbours cartesian = placeOf t (listsOf positions responses delays) (workOf left right neighbours cartesian) buf
-
-abbrev pub startPlace : At Session
-startPlace = between (begun noLists noWork) []
-
--- where the program is: the machine's place, what is left of the chunk, and what came of the last call
-pub record Stand : Type 0 where
+-- what the program's lists hold: the machine's place, the responses of the last query, and the list of what is to be written
+pub record Held : Type 0 where
   pub place : At Session
+  pub ears : Ears
+  pub out : List ℕ
+
+abbrev pub held : At Session → Ears → List ℕ → Held
+held a e out = record { place = a; ears = e; out = out }
+
+abbrev pub here : Run → List ℕ → List Float → List Float → List Float → List ℕ → List ℕ → List ℕ → List Float → List Float → List Float → List ℕ → Held
+here t buf positions responses delays left right neighbours cartesian outLeft outRight out =
+    held (placeOf t (listsOf positions responses delays) (workOf left right neighbours cartesian) buf) (earsOf outLeft outRight) out
+
+-- all zeros
+abbrev pub startHeld : Held
+startHeld = held (between (begun noLists noWork) []) (earsOf (replicate 4096 zero32) (replicate 4096 zero32)) (replicate 73848 0)
+
+-- after a turn over the rest of a chunk
+abbrev pub heldAfter : Held → List ℕ → Held
+heldAfter h rest =
+    let v = advanceOf 40000 (h .place) rest in
+    held (v .place) (advanceEars 40000 (h .place) rest (h .ears)) (over (v .printed) (h .out))
+
+-- where the program is: what its lists hold, what is left of the chunk, and what came of the last call
+pub record Stand : Type 0 where
+  pub held : Held
   pub rest : List ℕ
   pub flow : Flow
 
-abbrev pub standAt : At Session → List ℕ → Flow → Stand
-standAt a rest flow = record { place = a; rest = rest; flow = flow }
+abbrev pub standAt : Held → List ℕ → Flow → Stand
+standAt h rest flow = record { held = h; rest = rest; flow = flow }
 
 abbrev pub usedUp : List ℕ → Bool
 usedUp [] = true
@@ -90,14 +108,16 @@ usedUp (x ∷ xs) = false
 
 -- a read answered so, and left these bytes in the chunk
 abbrev pub reading : Stand → ℤ → List ℕ → Stand
-reading a got bytes = standAt (a .place) (take (clamped got 65536) bytes) (readFlow got)
+reading a got bytes = standAt (a .held) (take (clamped got 65536) bytes) (readFlow got)
 
 abbrev pub turnOf : Stand → Advance
-turnOf a = advanceOf 40000 (a .place) (a .rest)
+turnOf a = advanceOf 40000 (a .held .place) (a .rest)
 
 -- a turn was made, and what it says was written or not
 abbrev pub writing : Stand → Bool → Stand
-writing a ok = let v = turnOf a in standAt (v .place) (v .left) (writeFlow ok (usedUp (v .left) && isOver (v .place .known .phase)))
+writing a ok =
+    let v = turnOf a in
+    standAt (heldAfter (a .held) (a .rest)) (v .left) (writeFlow ok (usedUp (v .left) && isOver (v .place .known .phase)))
 
 -- a call, with what was handed over and what the system answered
 pub data Call : Type 0 where
@@ -113,7 +133,7 @@ pub data Ran : Stand → List Call → Stand → Type 0 where
 
 -- before the first call
 abbrev pub startStand : Stand
-startStand = standAt startPlace [] More
+startStand = standAt startHeld [] More
 
 -- with so many calls left that it may still make
 pub record Made (left : ℕ) (z : Stand) : Type 0 where
@@ -122,7 +142,7 @@ pub record Made (left : ℕ) (z : Stand) : Type 0 where
   pub counted : length calls + left ≡ 18446744073709551615
 
 -- The program came to a place by such calls, until one of them ended it or it had made all that it may
-pub record Came (z : At Session) (w : Went) : Type 0 where
+pub record Came (z : Held) (w : Went) : Type 0 where
   pub sound : Sound (w .run)
   pub rest : List ℕ
   pub left : ℕ
@@ -130,10 +150,11 @@ pub record Came (z : At Session) (w : Went) : Type 0 where
   pub stops : goesOn (w .flow) ≡ true → left ≡ 0
 
 -- and is about to write what is left
-pub record Ends (w : Went) (buf : List ℕ) : Type 0 where
+pub record Ends (w : Went) (buf out : List ℕ) : Type 0 where
   pub lists : Lists
   pub work : Work
-  pub came : Came (placeOf (w .run) lists work buf) w
+  pub ears : Ears
+  pub came : Came (held (placeOf (w .run) lists work buf) ears out) w
 
 -- ---- what was read and what was to be written
 

@@ -12,7 +12,7 @@ ghost use mathlib.Core.Path.{_≡_};
 ghost use lib.ListN.{length};
 ghost use Rattle.queries.specs.Sound.{Sound};
 ghost use Rattle.queries.specs.Machine.{startRun, Front};
-ghost use Rattle.sofaquery.specs.Calls.{here, startPlace, startWent, goesOn, readFlow, afterRead, writeFlow, afterWrite, lastText, endOf, Came, Ends};
+ghost use Rattle.sofaquery.specs.Calls.{here, startHeld, startWent, goesOn, readFlow, afterRead, writeFlow, afterWrite, lastText, endOf, Came, Ends};
 use queries::Run;
 
 // What came of the last call of the system.
@@ -129,8 +129,8 @@ fn run(
     out_right: &mut [f32; 4096],
     out: &mut [u8; 73848],
 ) -> Went
-    requires { ⌜ here startRun (now buf) (now positions) (now responses) (now delays) (now left) (now right) (now neighbours) (now cartesian) ≡ startPlace ⌝ }
-    ensures { λ r. ⌜ Came (here (r .run) (now (buf .exit)) (now (positions .exit)) (now (responses .exit)) (now (delays .exit)) (now (left .exit)) (now (right .exit)) (now (neighbours .exit)) (now (cartesian .exit))) r ⌝ }
+    requires { ⌜ here startRun (now buf) (now positions) (now responses) (now delays) (now left) (now right) (now neighbours) (now cartesian) (now «out_left») (now «out_right») (now out) ≡ startHeld ⌝ }
+    ensures { λ r. ⌜ Came (here (r .run) (now (buf .exit)) (now (positions .exit)) (now (responses .exit)) (now (delays .exit)) (now (left .exit)) (now (right .exit)) (now (neighbours .exit)) (now (cartesian .exit)) (now («out_left» .exit)) (now («out_right» .exit)) (now (out .exit))) r ⌝ }
 {
     let mut chunk = [0u8; 65536];
     let mut went = begin();
@@ -210,7 +210,7 @@ fn tell(flow: Flow) {
 }
 
 fn end(went: Went, buf: &[u8; 40000], out: &mut [u8; 73848])
-    requires { ⌜ Ends went (now buf) ⌝ }
+    requires { ⌜ Ends went (now buf) (now out) ⌝ }
 {
     let count = last(went, buf, out);
     let ok = write(out, count);
