@@ -1,7 +1,8 @@
 // The query program but for its reading and writing: one turn reads up to the end of a line, or to the end of what is there, and says what to print.
 //
 // specs/Program.antt says what the program prints of a whole text, `outputOf`, line by line as document 01's "The query program" has it; `advance`
-// equals one turn, `advanceOf` (specs/Machine.antt), and `finish` what is printed at the end.
+// equals one turn, `advanceOf` (specs/Machine.antt), and `finish` what is printed at the end. What is printed stands at the front of `out` and the
+// rest of it stays (`Front`); a query's responses stand in its two lists (`advanceEars`).
 //
 // proofs/Whole.antt: however the text is cut into chunks, all that the turns print and then the end come to `outputOf` of the text (`whole`, `program`),
 // and once over nothing more is printed (`nothing-more`). proofs/Turning.antt: there are turns for every text (`turns`). proofs/Order.antt: no
