@@ -1,4 +1,5 @@
--- Calls put together, one after another; and what they and the end write, where the program ends with the text (`whole-output`). Assumes nothing.
+-- Calls put together, one after another: what the system answered decides where they lead (`same-end`), and where the program ends with the text,
+-- what they and the end write is the output that document 01 gives it (`whole-output`). Assumes nothing.
 use Prim.Native.Nat.{ℕ, zero, suc, _+_, _-_, _≤_, _<_}
 use mathlib.Core.Path.{_≡_, refl, sym, ap, _∙_, subst}
 use mathlib.Core.Bool.{Bool, true, false, not, _&&_}
@@ -147,6 +148,12 @@ module _ (left left′ : ℕ) (fewer : left ≡ left′ + 1) (a : Held) (chunk :
       let m4 : on (place t) rest (leb have to) (place t .place .known .phase) = subst (λ (u : Bool). on (place t) rest u (place t .place .known .phase)) (used to) m3 in
       let m5 : on (place t) rest (leb have to) (t .phase) = subst (on (place t) rest (leb have to)) p m4 in
       subst (λ (w : Went). Made left′ (standAt (place (w .run)) (drop (w .at) (take (w .have) chunk)) (w .flow))) (sym said) m5
+
+-- What the system answered decides all: two runs of the same calls come to the same place, lists and all
+pub same-end : {a z y : Stand} {cs : List Call} → Ran a cs z → Ran a cs y → z ≡ y
+same-end none none = refl
+same-end (reads got bytes e f m) (reads got′ bytes′ e′ f′ n) = same-end m n
+same-end (turns ok e f m) (turns ok′ e′ f′ n) = same-end m n
 
 -- ---- what the calls wrote
 

@@ -3,8 +3,9 @@
 // Only reading and writing stand here; what a text comes to is crate `queries`, whose turns read up to the end of a line and say what to write.
 // No contract can speak of what was read or written. What the system answered is a value: each function that decides by it is an equation over it
 // (`afterRead`, `afterWrite`, `endOf`), and `run` is exactly those steps, one for each call that it made, until one of them ends it
-// (`Ran`, `Came`, specs/Calls.antt). proofs/Turns.antt: where it ends with the text, all that it was to write is `outputOf` of all that it read
-// (`whole-output`). Memory is the lists of `main` and one chunk, whatever the number of queries.
+// (`Ran`, `Came`, specs/Calls.antt). proofs/Turns.antt: the answers decide where it comes to, lists and all (`same-end`), and where it ends with the
+// text, all that it was to write is `outputOf` of all that it read (`whole-output`). Memory is the lists of `main` and one chunk, whatever the
+// number of queries.
 //
 // Where the system fails to read or to write, nothing more is written, since the text then has no end to speak of, and one line on standard error says so.
 ghost use Prim.Native.Nat.{_≤_};
