@@ -8,7 +8,6 @@ use Rattle.points.specs.declared.Point3.{Point3}
 use Rattle.limits.specs.declared.Sizes.{Sizes}
 use Rattle.lookup.specs.declared.Lookup.{Lookup}
 use Rattle.lookup.specs.declared.Located.{Located}
-use Rattle.lookup.specs.declared.Located.the-variants.{At, Refused}
 use Rattle.lookup.specs.Lookup.{findOf}
 use Rattle.interpolate.specs.Blend.{Filter}
 use Rattle.reader.specs.Queries.{filterSays}
@@ -24,22 +23,17 @@ sizesIn s = record { m = s .m; c = 3; r = s .r; n = s .n }
 unfoldable pub setOf : State → List Float → ℕ → Work → Load
 setOf s positions responses d = loadOf (s .kind) (sizesIn s) (take (3 * s .m) positions) responses (s .astep) (s .rstep) (s .rate) d
 
--- the number found; refused, it is not printed
-abbrev pub numberIn : Located → ℕ
-numberIn (At n) = n
-numberIn (Refused number place) = 65535
-
--- the number of the measurement nearest to a query
-unfoldable pub nearestOf : State → Lookup → Work → Point3 → ℕ
-nearestOf s look d q = numberIn (findOf look (sizesIn s) (d .cartesian) (d .left) (d .right) q)
+-- the measurement nearest to a query, or the find's refusal
+unfoldable pub nearestOf : State → Lookup → Work → Point3 → Located
+nearestOf s look d q = findOf look (sizesIn s) (d .cartesian) (d .left) (d .right) q
 
 -- the filter at a query, with outputs of n values
 unfoldable pub filteredOf : State → Lookup → Work → List Float → List Float → Point3 → Filter
 filteredOf s look d responses delays q =
     filterSays (sizesIn s) look (d .cartesian) (d .left) (d .right) (d .neighbours) responses (take (s .delays) delays) (s .rate) q (s .n) (s .n)
 
-abbrev pub blockFor : Filter → ℕ → List ℕ
-blockFor f nearest = blockOf (f .answer) nearest (f .left) (f .right)
+abbrev pub blockFor : Filter → Located → List ℕ
+blockFor f found = blockOf (f .answer) found (f .left) (f .right)
 
 -- the block of a query
 unfoldable pub answerOf : State → Lookup → Work → List Float → List Float → Point3 → List ℕ

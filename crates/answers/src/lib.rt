@@ -1,8 +1,9 @@
 // What a set in the text form answers, over the lists that its lines filled: `load` after its last line, and the block of each query.
 //
 // `load` equals `setOf` and `answer` equals `answeredOf`, which writes the block `answerOf` (specs/Answers.antt), by the definitions of crates
-// `loads`, `lookup`, `reader` and `blocks`. proofs/Few.antt: a set that was loaded has two ears and a measurement, so that n is at most 2048
-// (`ready-few`).
+// `loads`, `lookup`, `reader` and `blocks`. proofs/Found.antt: where the filter is answered its measurement was found, so that a block
+// names a number or tells the filter's own refusal (`found-where-answered`). proofs/Few.antt: a set that was loaded has two ears and a
+// measurement, so that n is at most 2048 (`ready-few`).
 ghost use mathlib.Core.Path.{_≡_};
 ghost use Prim.Native.Nat.{_+_, _*_, _≤_};
 ghost use lib.ListN.{length};
@@ -66,13 +67,10 @@ fn nearest(
     right: &[u16],
     neighbours: &[u16],
     q: Point3,
-) -> usize
+) -> Located
     ensures { λ r. ⌜ r ≡ nearestOf s look (workOf (now (left .entry)) (now (right .entry)) (now (neighbours .entry)) (now (cartesian .entry))) q ⌝ }
 {
-    match look.find(sizes_of(s), cartesian, left, right, q) {
-        Located::At(number) => number as usize,
-        Located::Refused(_reason, _place) => 65535,
-    }
+    look.find(sizes_of(s), cartesian, left, right, q)
 }
 
 // The filter at a query; both outputs are n values long.
@@ -129,7 +127,7 @@ pub fn answer(
     ensures { λ r. ⌜ answeredAs r (now (out .exit)) (now («out_left» .exit)) (now («out_right» .exit))
         ≡ answeredOf s look (workOf (now (left .entry)) (now (right .entry)) (now (neighbours .entry)) (now (cartesian .entry))) (now (responses .entry)) (now (delays .entry)) q (now (out .entry)) ⌝ }
 {
-    let number = nearest(s, look, cartesian, left, right, neighbours, q);
+    let found = nearest(s, look, cartesian, left, right, neighbours, q);
     let outcome = ask(
         s,
         look,
@@ -143,5 +141,5 @@ pub fn answer(
         out_left,
         out_right,
     );
-    blocks::block(outcome, number, out_left, out_right, out)
+    blocks::block(outcome, found, out_left, out_right, out)
 }

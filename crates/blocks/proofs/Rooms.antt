@@ -11,7 +11,9 @@ use Rattle.keys.specs.Words.{bytes}
 use Rattle.delays.specs.declared.Seconds.{Seconds}
 use Rattle.delays.specs.declared.Outcome.{Outcome}
 use Rattle.delays.specs.declared.Outcome.the-variants.{Exact, Blended, Refused}
-use Rattle.blocks.specs.Blocks.{newline, wordLine, countLine, valueText, valueLine, listText, valuesLine, headText, delaysText, filterText, refusedText, blockOf, formError}
+use Rattle.lookup.specs.declared.Located.{Located}
+use Rattle.lookup.specs.declared.Located.the-variants as located
+use Rattle.blocks.specs.Blocks.{newline, wordLine, countLine, valueText, valueLine, listText, valuesLine, headText, delaysText, filterText, foundText, refusedText, blockOf, formError}
 use Rattle.blocks.proofs.Values.{value-length, list-length}
 
 word : (w : List ℕ) → length (wordLine w) ≡ length w + 1
@@ -54,12 +56,16 @@ refused-room k p =
     let w = wordLine (bytes "answer=refused") in
     omega (arith, length-append (w ++ countLine (bytes "reason=") k) (countLine (bytes "place=") p), length-append w (countLine (bytes "reason=") k), word (bytes "answer=refused"), count (bytes "reason=") k, count (bytes "place=") p)
 
+found : (w : List ℕ) (f : Located) (p : ℕ) (l r : Seconds) (left right : List Float) → length (foundText w f p l r left right) ≤ length w + 9 * length left + 9 * length right + 103
+found w (located.At k) p l r left right = filter w k p l r left right
+found w (located.Refused reason place) p l r left right = omega (arith, refused-room reason place)
+
 -- 9 bytes for each value and 120 more
-pub block-room : (o : Outcome) (k : ℕ) (left right : List Float) → length (blockOf o k left right) ≤ 9 * length left + 9 * length right + 120
+pub block-room : (o : Outcome) (f : Located) (left right : List Float) → length (blockOf o f left right) ≤ 9 * length left + 9 * length right + 120
 unfolding bytes
-block-room (Exact l r) k left right = omega (arith, filter (bytes "answer=exact") k 1 l r left right)
-block-room (Blended l r p) k left right = omega (arith, filter (bytes "answer=blended") k p l r left right)
-block-room (Refused reason place) k left right = omega (arith, refused-room reason place)
+block-room (Exact l r) f left right = omega (arith, found (bytes "answer=exact") f 1 l r left right)
+block-room (Blended l r p) f left right = omega (arith, found (bytes "answer=blended") f p l r left right)
+block-room (Refused reason place) f left right = omega (arith, refused-room reason place)
 
 pub error-room : (k : ℕ) → length (formError k) ≤ 40
 unfolding formError bytes

@@ -8,6 +8,8 @@ use Rattle.keys.specs.Words.{bytes}
 use Rattle.delays.specs.declared.Seconds.{Seconds}
 use Rattle.delays.specs.declared.Outcome.{Outcome}
 use Rattle.delays.specs.declared.Outcome.the-variants.{Exact, Blended, Refused}
+use Rattle.lookup.specs.declared.Located.{Located}
+use Rattle.lookup.specs.declared.Located.the-variants as located
 
 -- ---- a line of each kind
 
@@ -55,11 +57,17 @@ filterText answer nearest points l r left right =
 unfoldable pub refusedText : ℕ → ℕ → List ℕ
 refusedText reason place = wordLine (bytes "answer=refused") ++ countLine (bytes "reason=") reason ++ countLine (bytes "place=") place
 
--- the block of a query: its outcome, the nearest measurement's number, and both responses
-abbrev pub blockOf : Outcome → ℕ → List Float → List Float → List ℕ
-blockOf (Exact l r) nearest left right = filterText (bytes "answer=exact") nearest 1 l r left right
-blockOf (Blended l r points) nearest left right = filterText (bytes "answer=blended") nearest points l r left right
-blockOf (Refused reason place) nearest left right = refusedText reason place
+-- a filter's block names the measurement that was found. A find that was refused is told as that: no filter of a set is answered then
+-- (crate `answers`, `found-where-answered`)
+abbrev pub foundText : List ℕ → Located → ℕ → Seconds → Seconds → List Float → List Float → List ℕ
+foundText answer (located.At number) points l r left right = filterText answer number points l r left right
+foundText answer (located.Refused reason place) points l r left right = refusedText reason place
+
+-- the block of a query: the filter's outcome, what the find answered, and both responses
+abbrev pub blockOf : Outcome → Located → List Float → List Float → List ℕ
+blockOf (Exact l r) found left right = foundText (bytes "answer=exact") found 1 l r left right
+blockOf (Blended l r points) found left right = foundText (bytes "answer=blended") found points l r left right
+blockOf (Refused reason place) found left right = refusedText reason place
 
 -- ---- the form error, at line k
 

@@ -8,9 +8,10 @@ ghost use mathlib.Core.List.{[], _∷_, _++_};
 ghost use lib.ListN.{length};
 ghost use Rattle.lists.specs.Over.{over};
 ghost use Rattle.blocks.specs.Put.{Room, Wrote};
-ghost use Rattle.blocks.specs.Blocks.{wordLine, countLine, valueText, valueLine, afterOne, listText, valuesLine, headText, delaysText, filterText, refusedText, blockOf, formError};
+ghost use Rattle.blocks.specs.Blocks.{wordLine, countLine, valueText, valueLine, afterOne, listText, valuesLine, headText, delaysText, filterText, foundText, refusedText, blockOf, formError};
 use delays::Outcome;
 use delays::Seconds;
+use lookup::Located;
 
 // ---- into a list from a place on: the place behind what was written
 
@@ -154,15 +155,46 @@ pub fn refused_block(reason: usize, place: usize, out: &mut [u8]) -> usize
     count_line(b"place=", place, out, b)
 }
 
+// The block of a filter, by what the find answered.
+fn found_block(
+    answer: &[u8],
+    found: Located,
+    points: usize,
+    ldelay: Seconds,
+    rdelay: Seconds,
+    left: &[f32],
+    right: &[f32],
+    out: &mut [u8],
+) -> usize
+    requires { ⌜ Room 0 (foundText (now answer) found points ldelay rdelay (now left) (now right)) (now out) ⌝ }
+    ensures { λ r. ⌜ Wrote 0 (foundText (now (answer .entry)) found points ldelay rdelay (now (left .entry)) (now (right .entry))) (now (out .entry)) r (now (out .exit)) ⌝ }
+{
+    match found {
+        Located::At(number) => {
+            filter_block(
+                answer,
+                number as usize,
+                points,
+                ldelay,
+                rdelay,
+                left,
+                right,
+                out,
+            )
+        }
+        Located::Refused(reason, place) => refused_block(reason as usize, place, out),
+    }
+}
+
 // The block of a query at the front of out: how many bytes it has.
-pub fn block(outcome: Outcome, nearest: usize, left: &[f32], right: &[f32], out: &mut [u8]) -> usize
-    requires { ⌜ length (blockOf outcome nearest (now left) (now right)) ≤ length (now out) ⌝ }
-    ensures { λ r. ⌜ (r ≡ length (blockOf outcome nearest (now (left .entry)) (now (right .entry)))) × (now (out .exit) ≡ over (blockOf outcome nearest (now (left .entry)) (now (right .entry))) (now (out .entry))) ⌝ }
+pub fn block(outcome: Outcome, found: Located, left: &[f32], right: &[f32], out: &mut [u8]) -> usize
+    requires { ⌜ length (blockOf outcome found (now left) (now right)) ≤ length (now out) ⌝ }
+    ensures { λ r. ⌜ (r ≡ length (blockOf outcome found (now (left .entry)) (now (right .entry)))) × (now (out .exit) ≡ over (blockOf outcome found (now (left .entry)) (now (right .entry))) (now (out .entry))) ⌝ }
 {
     match outcome {
-        Outcome::Exact(l, r) => filter_block(b"answer=exact", nearest, 1, l, r, left, right, out),
+        Outcome::Exact(l, r) => found_block(b"answer=exact", found, 1, l, r, left, right, out),
         Outcome::Blended(l, r, points) => {
-            filter_block(b"answer=blended", nearest, points, l, r, left, right, out)
+            found_block(b"answer=blended", found, points, l, r, left, right, out)
         }
         Outcome::Refused(reason, place) => refused_block(reason as usize, place, out),
     }

@@ -1,16 +1,17 @@
 -- What a turn comes to, by what the code was told of the chunk and of the line; and what stands at the front of a list that was written.
 -- Assumes nothing.
 use Prim.Native.Nat.{ℕ, _+_, _*_, _≤_, _<_}
-use mathlib.Core.Path.{_≡_, sym, ap, subst, _∙_}
+use mathlib.Core.Path.{_≡_, refl, sym, ap, subst, _∙_}
 use mathlib.Core.Bool.{true, false}
-use mathlib.Core.List.{List, []}
+use mathlib.Core.List.{List, [], _++_}
 use native.Mathlib.Omega.{arith}
 use lib.ListN.{length, take, drop, drop-of-length-le, length-append}
+use lib.Ieee.{Float}
 use Rattle.lists.specs.Over.{over}
-use Rattle.lists.proofs.Laws.{take-over}
+use Rattle.lists.proofs.Laws.{over-nil, take-over}
 use Rattle.lines.specs.declared.Cut.{Cut}
 use Rattle.lines.specs.declared.Cut.the-variants.{Line, More}
-use Rattle.lines.specs.Lines.{Within, cut, partOf}
+use Rattle.lines.specs.Lines.{Part, Within, cut, partOf}
 use Rattle.lines.specs.Machine.{At, choose}
 use Rattle.settext.specs.declared.State.{State}
 use Rattle.settext.specs.declared.Step.{Step}
@@ -26,18 +27,26 @@ use Rattle.blocks.specs.Blocks.{refusedText, formError}
 use Rattle.answers.specs.Answers.{setOf}
 use Rattle.queries.specs.declared.Phase.{Phase}
 use Rattle.queries.specs.declared.Phase.the-variants.{Ready, Over}
-use Rattle.queries.specs.Program.{Session, session, Turn, turn, stateIn, isOver, moved, loadTurn, byLoad, blockIn, stepTurn, afterTurn, lineTurn}
+use Rattle.queries.specs.Program.{Session, session, Turn, turn, stateIn, isOver, moved, loadTurn, byLoad, blockIn, stepTurn, afterTurn, lineTurn, Ears, earsOf, stepEars, afterEars, lineEars}
 use Rattle.queries.specs.Sound.{Few, SoundPhase}
-use Rattle.queries.specs.Machine.{between, advanceAs, lineAdvance, partAdvance, advanceOf}
+use Rattle.queries.specs.Machine.{between, Advance, advanceAs, lineAdvance, partAdvance, advanceOf, partEars, advanceEars, Front, TurnSays}
 
 -- once over, nothing is read and nothing printed
 pub silent : (room : ℕ) (a : At Session) (s : List ℕ) → isOver (a .known .phase) ≡ true → advanceOf room a s ≡ advanceAs a [] []
 unfolding advanceOf choose
 silent room a s e = rw e
 
+pub silent-ears : (room : ℕ) (a : At Session) (s : List ℕ) (k : Ears) → isOver (a .known .phase) ≡ true → k ≡ advanceEars room a s k
+unfolding advanceEars choose
+silent-ears room a s k e = rw e
+
 pub goes-by : (room : ℕ) (a : At Session) (s : List ℕ) → isOver (a .known .phase) ≡ false → advanceOf room a s ≡ partAdvance (a .known) (cut (take room) (a .have) s)
 unfolding advanceOf choose
 goes-by room a s e = rw e
+
+ears-by : (room : ℕ) (a : At Session) (s : List ℕ) (k : Ears) → isOver (a .known .phase) ≡ false → partEars (a .known) (cut (take room) (a .have) s) k ≡ advanceEars room a s k
+unfolding advanceEars choose
+ears-by room a s k e = rw e
 
 none-left : (s : List ℕ) → drop (length s) s ≡ []
 none-left s = let h : length s ≤ length s = omega arith in drop-of-length-le s h
@@ -50,13 +59,23 @@ module _ (buf buf′ chunk : List ℕ) (k : Session) (from used : ℕ) (r : Cut)
   by-cut : partAdvance k (partOf r buf′ chunk) ≡ advanceOf (length buf) (between k (take used buf)) (drop from chunk)
   by-cut = ap (partAdvance k) said ∙ sym (goes-by (length buf) (between k (take used buf)) (drop from chunk) going)
 
-  pub a-line : (next n : ℕ) → r ≡ Line next n → (t : Turn) → t ≡ lineTurn k (take n buf′)
-      → lineAdvance t (drop next chunk) ≡ advanceOf (length buf) (between k (take used buf)) (drop from chunk)
-  a-line next n e t f = ap (λ (t : Turn). lineAdvance t (drop next chunk)) f ∙ ap (λ (r : Cut). partAdvance k (partOf r buf′ chunk)) (sym e) ∙ by-cut
+  ears-cut : (e : Ears) → partEars k (partOf r buf′ chunk) e ≡ advanceEars (length buf) (between k (take used buf)) (drop from chunk) e
+  ears-cut e = ap (λ (p : Part). partEars k p e) said ∙ ears-by (length buf) (between k (take used buf)) (drop from chunk) e going
 
-  pub no-line : (n : ℕ) → r ≡ More n → advanceAs (between k (take n buf′)) (drop (length chunk) chunk) [] ≡ advanceOf (length buf) (between k (take used buf)) (drop from chunk)
-  no-line n e =
-      ap (λ (l : List ℕ). advanceAs (between k (take n buf′)) l []) (none-left chunk) ∙ ap (λ (r : Cut). partAdvance k (partOf r buf′ chunk)) (sym e) ∙ by-cut
+  module _ (next n : ℕ) (e : r ≡ Line next n) where
+    pub a-line : lineAdvance (lineTurn k (take n buf′)) (drop next chunk) ≡ advanceOf (length buf) (between k (take used buf)) (drop from chunk)
+    a-line = ap (λ (r : Cut). partAdvance k (partOf r buf′ chunk)) (sym e) ∙ by-cut
+
+    pub line-ears : (h : Ears) → lineEars k (take n buf′) h ≡ advanceEars (length buf) (between k (take used buf)) (drop from chunk) h
+    line-ears h = ap (λ (r : Cut). partEars k (partOf r buf′ chunk) h) (sym e) ∙ ears-cut h
+
+  module _ (n : ℕ) (e : r ≡ More n) where
+    pub no-line : advanceAs (between k (take n buf′)) (drop (length chunk) chunk) [] ≡ advanceOf (length buf) (between k (take used buf)) (drop from chunk)
+    no-line =
+        ap (λ (l : List ℕ). advanceAs (between k (take n buf′)) l []) (none-left chunk) ∙ ap (λ (r : Cut). partAdvance k (partOf r buf′ chunk)) (sym e) ∙ by-cut
+
+    pub more-ears : (h : Ears) → h ≡ advanceEars (length buf) (between k (take used buf)) (drop from chunk) h
+    more-ears h = ap (λ (r : Cut). partEars k (partOf r buf′ chunk) h) (sym e) ∙ ears-cut h
 
 -- how far the code was told to go
 module _ (buf chunk : List ℕ) (from : ℕ) (r : Cut) where
@@ -67,13 +86,35 @@ module _ (buf chunk : List ℕ) (from : ℕ) (r : Cut) where
   found-more n e h = subst (λ (r : Cut). Within r from (length buf) (length chunk)) e h
 
 -- what was written at the front
-module _ (xs d d′ : List ℕ) (n : ℕ) (e : n ≡ length xs) (f : d′ ≡ over xs d) where
+module _ {xs d d′ : List ℕ} {n : ℕ} (p : Front xs d d′ n) where
   pub front : take n d′ ≡ xs
-  front = ap (λ (l : List ℕ). take n l) f ∙ ap (λ (n : ℕ). take n (over xs d)) e ∙ take-over xs d
+  front = ap (λ (l : List ℕ). take n l) (p .same) ∙ ap (λ (n : ℕ). take n (over xs d)) (p .count) ∙ take-over xs d
 
   pub fits : n ≤ length d′
   unfolding over
-  fits = omega (arith, ap length f, length-append xs (drop (length xs) d))
+  fits = omega (arith, ap length (p .same), length-append xs (drop (length xs) d), p .count)
+
+pub nothing : (d : List ℕ) → Front [] d d 0
+nothing d = record { count = refl; same = sym (over-nil d) }
+
+pub put : {xs d d′ : List ℕ} {n : ℕ} → n ≡ length xs → d′ ≡ over xs d → Front xs d d′ n
+put e f = record { count = e; same = f }
+
+-- a list whose first n values were replaced by others
+pub laid : {xs ys : List Float} {n : ℕ} (d : List Float) → ys ≡ xs → length ys ≡ n → ys ++ drop n d ≡ over xs d
+unfolding over
+laid {ys = ys} d e f = ap (λ (k : ℕ). ys ++ drop k d) (sym f) ∙ ap (λ (zs : List Float). zs ++ drop (length zs) d) e
+
+pub same-ears : {l l′ r r′ : List Float} → l ≡ l′ → r ≡ r′ → earsOf l r ≡ earsOf l′ r′
+same-ears e f = cc
+
+-- the same text
+pub renamed : {xs ys d d′ : List ℕ} {n : ℕ} → xs ≡ ys → Front xs d d′ n → Front ys d d′ n
+renamed {d = d} {d′ = d′} {n = n} e p = subst (λ (t : List ℕ). Front t d d′ n) e p
+
+-- a turn that is known by its session and its text
+pub says : {x t : Turn} {d d′ : List ℕ} {n : ℕ} → x ≡ t → Front (x .printed) d d′ n → TurnSays t (x .session) d d′ n
+says {x} {d = d} {d′ = d′} {n = n} e p = subst (λ (t : Turn). TurnSays t (x .session) d d′ n) e (record { session = refl; printed = p })
 
 -- a load, by what it answered
 module _ (s : State) (d : Lists) (w′ : Work) (a : Loaded) (l : Load) (told : loadAs a w′ ≡ l) where
@@ -83,29 +124,23 @@ module _ (s : State) (d : Lists) (w′ : Work) (a : Loaded) (l : Load) (told : l
   pub load-ready : (look : Lookup) → a ≡ loaded.Ready look → turn (Ready s look) d w′ [] ≡ byLoad s d l
   load-ready look e = ap (loadTurn s d w′) (sym e) ∙ by-answer
 
-  pub load-refused : (reason place : ℕ) → a ≡ loaded.Refused reason place
-      → (out out′ : List ℕ) (n : ℕ) → n ≡ length (refusedText reason place) → out′ ≡ over (refusedText reason place) out
-      → turn Over d w′ (take n out′) ≡ byLoad s d l
-  load-refused reason place e out out′ n f g =
-      ap (turn Over d w′) (front (refusedText reason place) out out′ n f g) ∙ ap (loadTurn s d w′) (sym e) ∙ by-answer
+  pub load-refused : (reason place : ℕ) → a ≡ loaded.Refused reason place → turn Over d w′ (refusedText reason place) ≡ byLoad s d l
+  load-refused reason place e = ap (loadTurn s d w′) (sym e) ∙ by-answer
 
 -- a line, by what it was
 module _ (f : Phase) (d : Lists) (w : Work) (t : Step) where
   pub step-next : (g : Phase) (s : State) → g ≡ moved f s → t ≡ Next s → turn g d w [] ≡ stepTurn f t d w
   step-next g s a e = ap (λ (g : Phase). turn g d w []) a ∙ ap (λ (t : Step). stepTurn f t d w) (sym e)
 
-  pub step-complete : (s : State) (x : Turn) → x ≡ byLoad s d (setOf s (d .positions) (length (d .responses)) w) → t ≡ Complete s → x ≡ stepTurn f t d w
-  step-complete s x a e = a ∙ ap (λ (t : Step). stepTurn f t d w) (sym e)
+  pub step-complete : {k : Session} {out out′ : List ℕ} {n : ℕ} (s : State) → TurnSays (byLoad s d (setOf s (d .positions) (length (d .responses)) w)) k out out′ n → t ≡ Complete s
+      → TurnSays (stepTurn f t d w) k out out′ n
+  step-complete {k} {out} {out′} {n} s a e = subst (λ (t : Step). TurnSays (stepTurn f t d w) k out out′ n) (sym e) a
 
-  pub step-query : (g : Phase) (s : State) (q : Point3) (out out′ : List ℕ) (n : ℕ) → g ≡ moved f s → t ≡ Query s q
-      → n ≡ length (blockIn f s (d .responses) (d .delays) w q) → out′ ≡ over (blockIn f s (d .responses) (d .delays) w q) out → turn g d w (take n out′) ≡ stepTurn f t d w
-  step-query g s q out out′ n a e h k =
-      ap (λ (g : Phase). turn g d w (take n out′)) a
-      ∙ ap (turn (moved f s) d w) (front (blockIn f s (d .responses) (d .delays) w q) out out′ n h k)
-      ∙ ap (λ (t : Step). stepTurn f t d w) (sym e)
+  pub step-query : (g : Phase) (s : State) (q : Point3) → g ≡ moved f s → t ≡ Query s q → turn g d w (blockIn f s (d .responses) (d .delays) w q) ≡ stepTurn f t d w
+  step-query g s q a e = ap (λ (g : Phase). turn g d w (blockIn f s (d .responses) (d .delays) w q)) a ∙ ap (λ (t : Step). stepTurn f t d w) (sym e)
 
-  pub step-bad : (k : ℕ) (out out′ : List ℕ) (n : ℕ) → t ≡ Malformed k → n ≡ length (formError k) → out′ ≡ over (formError k) out → turn Over d w (take n out′) ≡ stepTurn f t d w
-  step-bad k out out′ n e h g = ap (turn Over d w) (front (formError k) out out′ n h g) ∙ ap (λ (t : Step). stepTurn f t d w) (sym e)
+  pub step-bad : (k : ℕ) → t ≡ Malformed k → turn Over d w (formError k) ≡ stepTurn f t d w
+  step-bad k e = ap (λ (t : Step). stepTurn f t d w) (sym e)
 
 module _ (f : Phase) (d : Lists) (l : List ℕ) (a : After) (s : State) (told : a ≡ lineOf s l d) (of : s ≡ stateIn f) where
   by-line : a ≡ lineOf (stateIn f) l d
@@ -118,6 +153,10 @@ module _ (f : Phase) (d : Lists) (l : List ℕ) (a : After) (s : State) (told : 
   pub line-turn : (w : Work) → stepTurn f (a .step) (a .lists) w ≡ lineTurn (session f d w) l
   unfolding lineTurn
   line-turn w = ap (λ (a : After). afterTurn f a w) by-line
+
+  pub line-ears-of : (w : Work) (e : Ears) → stepEars f (a .step) (a .lists) w e ≡ lineEars (session f d w) l e
+  unfolding lineEars
+  line-ears-of w e = ap (λ (a : After). afterEars f a w e) by-line
 
 -- ---- what a call asks of the lengths, by the limits
 

@@ -20,11 +20,11 @@ use Rattle.queries.specs.declared.Run.{Run}
 use Rattle.queries.specs.declared.Told.{Told}
 use Rattle.queries.specs.declared.Phase.{Phase}
 use Rattle.queries.specs.declared.Phase.the-variants.{Reading, Ready, Over}
-use Rattle.queries.specs.Program.{Session, Known, known, stateIn, isOver, afterTurn, lineTurn, ended, printing, onLine, endText, closing, closed, begun, outputFrom, noLists, noWork, outputOf}
+use Rattle.queries.specs.Program.{Session, Known, known, Ears, stateIn, isOver, afterTurn, lineTurn, ended, printing, onLine, endText, closing, closed, begun, outputFrom, noLists, noWork, outputOf}
 use Rattle.queries.specs.Sound.{SoundPhase}
 use Rattle.queries.specs.Machine.{between, Advance, partAdvance, advanceOf, placeOf, AdvanceSays, FinishSays, Makes, done, next, goes}
 use Rattle.queries.proofs.Keeps.{turn-sound}
-use Rattle.queries.proofs.Turns.{silent, goes-by}
+use Rattle.queries.proofs.Turns.{silent, goes-by, front}
 
 -- ---- turns are the machine of the lines
 
@@ -142,13 +142,12 @@ program m = whole 39999 (lit≤ tt) noLists noWork m
 -- ---- in the code's terms
 
 -- what `advance` promises is a turn
-pub told : {chunk : List ℕ} {from : ℕ} {buf buf′ : List ℕ} {t : Run} {d d′ : Lists} {w w′ : Work} {out′ : List ℕ} {r : Told} {cs : List (List ℕ)} {p : List ℕ} {z : At Session}
-    → AdvanceSays chunk from buf buf′ t d d′ w w′ out′ r → Makes 40000 (placeOf (r .run) d′ w′ buf′) (drop (r .next) chunk ∷ cs) p z
+pub told : {chunk : List ℕ} {from : ℕ} {buf buf′ : List ℕ} {t : Run} {d d′ : Lists} {w w′ : Work} {e e′ : Ears} {out out′ : List ℕ} {r : Told} {cs : List (List ℕ)} {p : List ℕ} {z : At Session}
+    → AdvanceSays chunk from buf buf′ t d d′ w w′ e e′ out out′ r → Makes 40000 (placeOf (r .run) d′ w′ buf′) (drop (r .next) chunk ∷ cs) p z
     → Makes 40000 (placeOf t d w buf) (drop from chunk ∷ cs) (take (r .count) out′ ++ p) z
-told {chunk} {from} {buf} {t = t} {d = d} {w = w} {cs = cs} {p = p} {z = z} says m =
-    subst (λ (x : Advance). Makes 40000 (x .place) (x .left ∷ cs) p z → Makes 40000 (placeOf t d w buf) (drop from chunk ∷ cs) (x .printed ++ p) z) (sym (says .same)) goes m
+told says m = rw (front (says .printed)) (goes (rw (says .place, says .left) at m))
 
 -- what the turns over a text said to print, and what `finish` says then, is the output of the text
-pub printed : {cs : List (List ℕ)} {p buf out′ : List ℕ} {t : Run} {d : Lists} {w : Work} {r : ℕ}
-    → Makes 40000 (between (begun noLists noWork) []) cs p (placeOf t d w buf) → FinishSays buf t out′ r → p ++ take r out′ ≡ outputOf (joined cs)
-printed {p = p} m says = ap (λ (l : List ℕ). p ++ l) (says .same) ∙ program m
+pub printed : {cs : List (List ℕ)} {p out out′ : List ℕ} {d : Lists} {w : Work} {r : ℕ} (t : Run) (buf : List ℕ)
+    → Makes 40000 (between (begun noLists noWork) []) cs p (placeOf t d w buf) → FinishSays buf t out out′ r → p ++ take r out′ ≡ outputOf (joined cs)
+printed {p = p} t buf m says = ap (λ (l : List ℕ). p ++ l) (front says) ∙ program m

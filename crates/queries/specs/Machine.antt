@@ -4,8 +4,10 @@ use mathlib.Core.Path.{_≡_}
 use mathlib.Core.List.{List, [], _∷_, _++_}
 use lib.ListN.{length, take, drop}
 use lib.Ieee.{Float}
+use Rattle.lists.specs.Over.{over}
 use Rattle.lines.specs.Lines.{Part, line, more, cut}
 use Rattle.lines.specs.Machine.{At, choose}
+use Rattle.points.specs.declared.Point3.{Point3}
 use Rattle.settext.specs.declared.State.{State}
 use Rattle.settext.specs.declared.Step.{Step}
 use Rattle.settext.specs.State.{startOf}
@@ -17,7 +19,7 @@ use Rattle.queries.specs.declared.Phase.the-variants.{Reading}
 use Rattle.queries.specs.declared.Run.{Run}
 use Rattle.queries.specs.declared.Turned.{Turned}
 use Rattle.queries.specs.declared.Told.{Told}
-use Rattle.queries.specs.Program.{Session, session, Turn, turn, isOver, byLoad, stepTurn, lineTurn, closing}
+use Rattle.queries.specs.Program.{Session, session, Turn, isOver, blockIn, byLoad, stepTurn, lineTurn, Ears, earsIn, stepEars, lineEars, closing}
 use Rattle.queries.specs.Sound.{Sound}
 
 abbrev pub startRun : Run
@@ -47,33 +49,56 @@ partAdvance k (more h) = advanceAs (between k h) [] []
 unfoldable pub advanceOf : ℕ → At Session → List ℕ → Advance
 advanceOf room a s = choose (isOver (a .known .phase)) (advanceAs a [] []) (partAdvance (a .known) (cut (take room) (a .have) s))
 
+-- what the turn leaves in the two lists of responses
+abbrev pub partEars : Session → Part → Ears → Ears
+partEars k (line l rest) e = lineEars k l e
+partEars k (more h) e = e
+
+unfoldable pub advanceEars : ℕ → At Session → List ℕ → Ears → Ears
+advanceEars room a s e = choose (isOver (a .known .phase)) e (partEars (a .known) (cut (take room) (a .have) s) e)
+
 -- the place that a run stands for, by the lent lists
 abbrev pub placeOf : Run → Lists → Work → List ℕ → At Session
 placeOf t d w buf = between (session (t .phase) d w) (take (t .used) buf)
 
--- what `out` holds at its front is printed
-pub record LoadSays (s : State) (positions responses : List Float) (w w′ : Work) (out′ : List ℕ) (r : Turned) : Type 0 where
-  pub same : (d : Lists) → turn (r .phase) d w′ (take (r .count) out′) ≡ byLoad s d (setOf s positions (length responses) w)
-  pub count : r .count ≤ length out′
+-- ---- what the calls promise
 
-pub record StepSays (f : Phase) (t : Step) (d : Lists) (w w′ : Work) (out′ : List ℕ) (r : Turned) : Type 0 where
-  pub same : turn (r .phase) d w′ (take (r .count) out′) ≡ stepTurn f t d w
-  pub count : r .count ≤ length out′
+-- so many bytes at the front of a list are these, and the rest of it stays
+pub record Front (text out out′ : List ℕ) (r : ℕ) : Type 0 where
+  pub count : r ≡ length text
+  pub same : out′ ≡ over text out
 
-pub record LineSays (f : Phase) (l : List ℕ) (d d′ : Lists) (w w′ : Work) (out′ : List ℕ) (r : Turned) : Type 0 where
-  pub same : turn (r .phase) d′ w′ (take (r .count) out′) ≡ lineTurn (session f d w) l
-  pub count : r .count ≤ length out′
+-- a turn came to a session, and what it prints is at the front of `out`
+pub record TurnSays (t : Turn) (k : Session) (out out′ : List ℕ) (n : ℕ) : Type 0 where
+  pub session : k ≡ t .session
+  pub printed : Front (t .printed) out out′ n
 
-pub record AdvanceSays (chunk : List ℕ) (from : ℕ) (buf buf′ : List ℕ) (t : Run) (d d′ : Lists) (w w′ : Work) (out′ : List ℕ) (r : Told) : Type 0 where
-  pub same : advanceAs (placeOf (r .run) d′ w′ buf′) (drop (r .next) chunk) (take (r .count) out′) ≡ advanceOf 40000 (placeOf t d w buf) (drop from chunk)
+pub record AskSays (f : Phase) (s : State) (responses delays : List Float) (w : Work) (q : Point3) (e e′ : Ears) (out out′ : List ℕ) (r : ℕ) : Type 0 where
+  pub printed : Front (blockIn f s responses delays w q) out out′ r
+  pub ears : e′ ≡ earsIn f s responses delays w q e
+
+abbrev pub LoadSays : State → List Float → List Float → Work → Work → List ℕ → List ℕ → Turned → Type 0
+LoadSays s positions responses w w′ out out′ r = (d : Lists) → TurnSays (byLoad s d (setOf s positions (length responses) w)) (session (r .phase) d w′) out out′ (r .count)
+
+pub record StepSays (f : Phase) (t : Step) (d : Lists) (w w′ : Work) (e e′ : Ears) (out out′ : List ℕ) (r : Turned) : Type 0 where
+  pub turn : TurnSays (stepTurn f t d w) (session (r .phase) d w′) out out′ (r .count)
+  pub ears : e′ ≡ stepEars f t d w e
+
+pub record LineSays (f : Phase) (l : List ℕ) (d d′ : Lists) (w w′ : Work) (e e′ : Ears) (out out′ : List ℕ) (r : Turned) : Type 0 where
+  pub turn : TurnSays (lineTurn (session f d w) l) (session (r .phase) d′ w′) out out′ (r .count)
+  pub ears : e′ ≡ lineEars (session f d w) l e
+
+pub record AdvanceSays (chunk : List ℕ) (from : ℕ) (buf buf′ : List ℕ) (t : Run) (d d′ : Lists) (w w′ : Work) (e e′ : Ears) (out out′ : List ℕ) (r : Told) : Type 0 where
+  pub place : placeOf (r .run) d′ w′ buf′ ≡ advanceOf 40000 (placeOf t d w buf) (drop from chunk) .place
+  pub left : drop (r .next) chunk ≡ advanceOf 40000 (placeOf t d w buf) (drop from chunk) .left
+  pub printed : Front (advanceOf 40000 (placeOf t d w buf) (drop from chunk) .printed) out out′ (r .count)
+  pub ears : e′ ≡ advanceEars 40000 (placeOf t d w buf) (drop from chunk) e
   pub sound : Sound (r .run)
   pub next : r .next ≤ length chunk
   pub moves : from < length chunk → from < r .next
-  pub count : r .count ≤ length out′
 
-pub record FinishSays (buf : List ℕ) (t : Run) (out′ : List ℕ) (r : ℕ) : Type 0 where
-  pub same : take r out′ ≡ closing (t .phase) (take (t .used) buf)
-  pub count : r ≤ length out′
+abbrev pub FinishSays : List ℕ → Run → List ℕ → List ℕ → ℕ → Type 0
+FinishSays buf t out out′ r = Front (closing (t .phase) (take (t .used) buf)) out out′ r
 
 -- ---- chunk after chunk
 

@@ -6,6 +6,7 @@ use mathlib.Core.List.{List, [], _++_}
 use lib.ListN.{length, replicate}
 use lib.Ieee.{Float}
 use Rattle.floats.specs.Floats.{zero32}
+use Rattle.lists.specs.Over.{over}
 use Rattle.points.specs.declared.Point3.{Point3}
 use Rattle.lines.specs.Machine.{split, reads}
 use Rattle.settext.specs.declared.State.{State}
@@ -19,7 +20,7 @@ use Rattle.loads.specs.declared.Loaded.{Loaded}
 use Rattle.loads.specs.declared.Loaded.the-variants as loaded
 use Rattle.loads.specs.Load.{Work, Load, workOf}
 use Rattle.blocks.specs.Blocks.{refusedText, formError}
-use Rattle.answers.specs.Answers.{setOf, answerOf}
+use Rattle.answers.specs.Answers.{setOf, filteredOf, answerOf}
 use Rattle.queries.specs.declared.Phase.{Phase}
 use Rattle.queries.specs.declared.Phase.the-variants.{Reading, Ready, Over}
 
@@ -89,6 +90,36 @@ afterTurn f a w = stepTurn f (a .step) (a .lists) w
 
 unfoldable pub lineTurn : Session → List ℕ → Turn
 lineTurn k l = afterTurn (k .phase) (lineOf (stateIn (k .phase)) l (k .lists)) (k .work)
+
+-- ---- the two lists that a query's responses are put in
+
+pub record Ears : Type 0 where
+  pub left : List Float
+  pub right : List Float
+
+abbrev pub earsOf : List Float → List Float → Ears
+earsOf l r = record { left = l; right = r }
+
+-- those of the filter at the front; before the load there are none
+abbrev pub earsIn : Phase → State → List Float → List Float → Work → Point3 → Ears → Ears
+earsIn (Reading t) s responses delays w q e = e
+earsIn (Ready t look) s responses delays w q e =
+    let f = filteredOf s look w responses delays q in
+    earsOf (over (f .left) (e .left)) (over (f .right) (e .right))
+earsIn Over s responses delays w q e = e
+
+-- only a query puts something there
+abbrev pub stepEars : Phase → Step → Lists → Work → Ears → Ears
+stepEars f (Next s) d w e = e
+stepEars f (Complete s) d w e = e
+stepEars f (Query s q) d w e = earsIn f s (d .responses) (d .delays) w q e
+stepEars f (Malformed k) d w e = e
+
+abbrev pub afterEars : Phase → After → Work → Ears → Ears
+afterEars f a w e = stepEars f (a .step) (a .lists) w e
+
+unfoldable pub lineEars : Session → List ℕ → Ears → Ears
+lineEars k l e = afterEars (k .phase) (lineOf (stateIn (k .phase)) l (k .lists)) (k .work) e
 
 -- ---- a whole text
 

@@ -1,7 +1,8 @@
 // The query program but for its reading and writing: one turn reads up to the end of a line, or to the end of what is there, and says what to print.
 //
 // specs/Program.antt says what the program prints of a whole text, `outputOf`, line by line as document 01's "The query program" has it; `advance`
-// equals one turn, `advanceOf` (specs/Machine.antt), and `finish` what is printed at the end.
+// equals one turn, `advanceOf` (specs/Machine.antt), and `finish` what is printed at the end. What is printed stands at the front of `out` and the
+// rest of it stays (`Front`); a query's responses stand in its two lists (`advanceEars`).
 //
 // proofs/Whole.antt: however the text is cut into chunks, all that the turns print and then the end come to `outputOf` of the text (`whole`, `program`),
 // and once over nothing more is printed (`nothing-more`). proofs/Turning.antt: there are turns for every text (`turns`). proofs/Order.antt: no
@@ -14,9 +15,9 @@ ghost use lib.ListN.{length};
 ghost use Rattle.lists.specs.Over.{over};
 ghost use Rattle.loads.specs.Load.{workOf};
 ghost use Rattle.settext.specs.Lines.{endOf};
-ghost use Rattle.queries.specs.Program.{listsOf, stateIn, isOver, moved, blockIn, endText};
+ghost use Rattle.queries.specs.Program.{listsOf, stateIn, isOver, moved, earsOf, endText};
 ghost use Rattle.queries.specs.Sound.{Few, SoundPhase, Sound, Rooms};
-ghost use Rattle.queries.specs.Machine.{startRun, LoadSays, StepSays, LineSays, AdvanceSays, FinishSays};
+ghost use Rattle.queries.specs.Machine.{startRun, AskSays, LoadSays, StepSays, LineSays, AdvanceSays, FinishSays};
 use lines::Cut;
 use loads::Loaded;
 use lookup::Lookup;
@@ -107,7 +108,7 @@ fn complete(
     out: &mut [u8],
 ) -> Turned
     requires { ⌜ (3 * (s .m) ≤ length (now positions)) × (70 ≤ length (now out)) ⌝ }
-    ensures { λ r. ⌜ LoadSays s (now (positions .entry)) (now (responses .entry)) (workOf (now (left .entry)) (now (right .entry)) (now (neighbours .entry)) (now (cartesian .entry))) (workOf (now (left .exit)) (now (right .exit)) (now (neighbours .exit)) (now (cartesian .exit))) (now (out .exit)) r ⌝ }
+    ensures { λ r. ⌜ LoadSays s (now (positions .entry)) (now (responses .entry)) (workOf (now (left .entry)) (now (right .entry)) (now (neighbours .entry)) (now (cartesian .entry))) (workOf (now (left .exit)) (now (right .exit)) (now (neighbours .exit)) (now (cartesian .exit))) (now (out .entry)) (now (out .exit)) r ⌝ }
 {
     match answers::load(s, positions, responses, left, right, neighbours, cartesian) {
         Loaded::Ready(look) => Turned {
@@ -137,8 +138,8 @@ fn ask(
     out: &mut [u8],
 ) -> usize
     requires { ⌜ (s .delays ≤ length (now delays)) × (s .n ≤ length (now «out_left»)) × (s .n ≤ length (now «out_right»)) × (18 * (s .n) + 120 ≤ length (now out)) ⌝ }
-    ensures { λ r. ⌜ (r ≡ length (blockIn f s (now (responses .entry)) (now (delays .entry)) (workOf (now (left .entry)) (now (right .entry)) (now (neighbours .entry)) (now (cartesian .entry))) q))
-        × (now (out .exit) ≡ over (blockIn f s (now (responses .entry)) (now (delays .entry)) (workOf (now (left .entry)) (now (right .entry)) (now (neighbours .entry)) (now (cartesian .entry))) q) (now (out .entry))) ⌝ }
+    ensures { λ r. ⌜ AskSays f s (now (responses .entry)) (now (delays .entry)) (workOf (now (left .entry)) (now (right .entry)) (now (neighbours .entry)) (now (cartesian .entry))) q
+        (earsOf (now («out_left» .entry)) (now («out_right» .entry))) (earsOf (now («out_left» .exit)) (now («out_right» .exit))) (now (out .entry)) (now (out .exit)) r ⌝ }
 {
     let n = s.n as usize;
     match f {
@@ -177,7 +178,8 @@ fn by_step(
     out: &mut [u8],
 ) -> Turned
     requires { ⌜ Few step × Rooms (length (now positions)) (length (now delays)) (length (now «out_left»)) (length (now «out_right»)) (length (now out)) ⌝ }
-    ensures { λ r. ⌜ StepSays f step (listsOf (now (positions .entry)) (now (responses .entry)) (now (delays .entry))) (workOf (now (left .entry)) (now (right .entry)) (now (neighbours .entry)) (now (cartesian .entry))) (workOf (now (left .exit)) (now (right .exit)) (now (neighbours .exit)) (now (cartesian .exit))) (now (out .exit)) r ⌝ }
+    ensures { λ r. ⌜ StepSays f step (listsOf (now (positions .entry)) (now (responses .entry)) (now (delays .entry))) (workOf (now (left .entry)) (now (right .entry)) (now (neighbours .entry)) (now (cartesian .entry))) (workOf (now (left .exit)) (now (right .exit)) (now (neighbours .exit)) (now (cartesian .exit)))
+        (earsOf (now («out_left» .entry)) (now («out_right» .entry))) (earsOf (now («out_left» .exit)) (now («out_right» .exit))) (now (out .entry)) (now (out .exit)) r ⌝ }
 {
     match step {
         Step::Next(s) => Turned {
@@ -234,7 +236,8 @@ fn take_line(
     out: &mut [u8],
 ) -> Turned
     requires { ⌜ SoundPhase f × Rooms (length (now positions)) (length (now delays)) (length (now «out_left»)) (length (now «out_right»)) (length (now out)) ⌝ }
-    ensures { λ r. ⌜ LineSays f (now (line .entry)) (listsOf (now (positions .entry)) (now (responses .entry)) (now (delays .entry))) (listsOf (now (positions .exit)) (now (responses .exit)) (now (delays .exit))) (workOf (now (left .entry)) (now (right .entry)) (now (neighbours .entry)) (now (cartesian .entry))) (workOf (now (left .exit)) (now (right .exit)) (now (neighbours .exit)) (now (cartesian .exit))) (now (out .exit)) r ⌝ }
+    ensures { λ r. ⌜ LineSays f (now (line .entry)) (listsOf (now (positions .entry)) (now (responses .entry)) (now (delays .entry))) (listsOf (now (positions .exit)) (now (responses .exit)) (now (delays .exit))) (workOf (now (left .entry)) (now (right .entry)) (now (neighbours .entry)) (now (cartesian .entry))) (workOf (now (left .exit)) (now (right .exit)) (now (neighbours .exit)) (now (cartesian .exit)))
+        (earsOf (now («out_left» .entry)) (now («out_right» .entry))) (earsOf (now («out_left» .exit)) (now («out_right» .exit))) (now (out .entry)) (now (out .exit)) r ⌝ }
 {
     let step = settext::take_line(state_in(f), line, positions, responses, delays);
     by_step(
@@ -271,7 +274,8 @@ fn turn(
     out: &mut [u8],
 ) -> Told
     requires { ⌜ (at ≤ length (now chunk)) × Sound t × (length (now buf) ≡ 40000) × Rooms (length (now positions)) (length (now delays)) (length (now «out_left»)) (length (now «out_right»)) (length (now out)) ⌝ }
-    ensures { λ r. ⌜ AdvanceSays (now (chunk .entry)) at (now (buf .entry)) (now (buf .exit)) t (listsOf (now (positions .entry)) (now (responses .entry)) (now (delays .entry))) (listsOf (now (positions .exit)) (now (responses .exit)) (now (delays .exit))) (workOf (now (left .entry)) (now (right .entry)) (now (neighbours .entry)) (now (cartesian .entry))) (workOf (now (left .exit)) (now (right .exit)) (now (neighbours .exit)) (now (cartesian .exit))) (now (out .exit)) r ⌝ }
+    ensures { λ r. ⌜ AdvanceSays (now (chunk .entry)) at (now (buf .entry)) (now (buf .exit)) t (listsOf (now (positions .entry)) (now (responses .entry)) (now (delays .entry))) (listsOf (now (positions .exit)) (now (responses .exit)) (now (delays .exit))) (workOf (now (left .entry)) (now (right .entry)) (now (neighbours .entry)) (now (cartesian .entry))) (workOf (now (left .exit)) (now (right .exit)) (now (neighbours .exit)) (now (cartesian .exit)))
+        (earsOf (now («out_left» .entry)) (now («out_right» .entry))) (earsOf (now («out_left» .exit)) (now («out_right» .exit))) (now (out .entry)) (now (out .exit)) r ⌝ }
 {
     if is_over(t) {
         return Told {
@@ -331,7 +335,8 @@ pub fn advance(
     out: &mut [u8; 73848],
 ) -> Told
     requires { ⌜ (at ≤ length (now chunk)) × Sound t ⌝ }
-    ensures { λ r. ⌜ AdvanceSays (now (chunk .entry)) at (now (buf .entry)) (now (buf .exit)) t (listsOf (now (positions .entry)) (now (responses .entry)) (now (delays .entry))) (listsOf (now (positions .exit)) (now (responses .exit)) (now (delays .exit))) (workOf (now (left .entry)) (now (right .entry)) (now (neighbours .entry)) (now (cartesian .entry))) (workOf (now (left .exit)) (now (right .exit)) (now (neighbours .exit)) (now (cartesian .exit))) (now (out .exit)) r ⌝ }
+    ensures { λ r. ⌜ AdvanceSays (now (chunk .entry)) at (now (buf .entry)) (now (buf .exit)) t (listsOf (now (positions .entry)) (now (responses .entry)) (now (delays .entry))) (listsOf (now (positions .exit)) (now (responses .exit)) (now (delays .exit))) (workOf (now (left .entry)) (now (right .entry)) (now (neighbours .entry)) (now (cartesian .entry))) (workOf (now (left .exit)) (now (right .exit)) (now (neighbours .exit)) (now (cartesian .exit)))
+        (earsOf (now («out_left» .entry)) (now («out_right» .entry))) (earsOf (now («out_left» .exit)) (now («out_right» .exit))) (now (out .entry)) (now (out .exit)) r ⌝ }
 {
     turn(
         chunk,
@@ -363,7 +368,7 @@ fn end(s: State, rest: &[u8], out: &mut [u8]) -> usize
 
 fn closing_of(t: Run, buf: &[u8], out: &mut [u8]) -> usize
     requires { ⌜ (t .used ≤ length (now buf)) × (40 ≤ length (now out)) ⌝ }
-    ensures { λ r. ⌜ FinishSays (now (buf .entry)) t (now (out .exit)) r ⌝ }
+    ensures { λ r. ⌜ FinishSays (now (buf .entry)) t (now (out .entry)) (now (out .exit)) r ⌝ }
 {
     let f = t.phase;
     let used = t.used;
@@ -377,7 +382,7 @@ fn closing_of(t: Run, buf: &[u8], out: &mut [u8]) -> usize
 // At the end of the input: how many bytes at the front of `out` are still to be printed.
 pub fn finish(t: Run, buf: &[u8; 40000], out: &mut [u8; 73848]) -> usize
     requires { ⌜ Sound t ⌝ }
-    ensures { λ r. ⌜ FinishSays (now (buf .entry)) t (now (out .exit)) r ⌝ }
+    ensures { λ r. ⌜ FinishSays (now (buf .entry)) t (now (out .entry)) (now (out .exit)) r ⌝ }
 {
     closing_of(t, buf, out)
 }

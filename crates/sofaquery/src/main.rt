@@ -1,72 +1,123 @@
 // `sofaquery`: reads one set in the text form from standard input, and writes one block for each query to standard output.
 //
-// Only reading and writing stand here; what a text comes to is crate `queries`, whose turns read up to the end of a line and say what to write. No
-// contract can speak of what was read or written. What is promised is that the lists and the run are always where the machine comes to over
-// the chunks that were read (`Took`, `CameTo` in specs/Took.antt), so that by the law `program` of `queries` what its turns and the end say
-// to write is `outputOf` of the text. Memory is the lists of `main` and one chunk, whatever the number of queries.
+// Only reading and writing stand here; what a text comes to is crate `queries`, whose turns read up to the end of a line and say what to write.
+// No contract can speak of what was read or written. What the system answered is a value: each function that decides by it is an equation over it
+// (`afterRead`, `afterWrite`, `endOf`), and `run` is exactly those steps, one for each call that it made, until one of them ends it
+// (`Ran`, `Came`, specs/Calls.antt). proofs/Turns.antt: the answers decide where it comes to, lists and all (`same-end`), and where it ends with the
+// text, all that it was to write is `outputOf` of all that it read (`whole-output`). Memory is the lists of `main` and one chunk, whatever the
+// number of queries.
 //
 // Where the system fails to read or to write, nothing more is written, since the text then has no end to speak of, and one line on standard error says so.
 ghost use Prim.Native.Nat.{_≤_};
 ghost use mathlib.Core.Path.{_≡_};
-ghost use mathlib.Core.Bool.{true};
 ghost use lib.ListN.{length};
 ghost use Rattle.queries.specs.Sound.{Sound};
-ghost use Rattle.sofaquery.specs.Took.{here, Ends, onward, halted, TakeSays, SomeSays, LastSays};
+ghost use Rattle.queries.specs.Machine.{startRun, Front};
+ghost use Rattle.sofaquery.specs.Calls.{here, startHeld, startWent, goesOn, readFlow, afterRead, writeFlow, afterWrite, lastText, endOf, Came, Ends};
 use queries::Run;
 
-// After a chunk: how far the machine is, whether there may be more to read, and whether nothing failed.
+// What came of the last call of the system.
+pub enum Flow {
+    // There may be more to read.
+    More,
+    // The text has ended, or all is printed.
+    Ended,
+    // Standard input could not be read.
+    Unread,
+    // Standard output could not be written.
+    Unwritten,
+}
+
+// Between two calls: how far the machine is, which part of the chunk it has not read, and what came of the last call.
 pub struct Went {
     pub run: Run,
-    pub more: bool,
-    pub fine: bool,
+    pub at: usize,
+    pub have: usize,
+    pub flow: Flow,
 }
 
-fn stopped(run: Run, fine: bool) -> Went
-    ensures { λ r. ⌜ r ≡ halted run fine ⌝ }
+fn begin() -> Went
+    ensures { λ r. ⌜ r ≡ startWent ⌝ }
 {
     Went {
-        run: run,
-        more: false,
-        fine: fine,
+        run: queries::start(),
+        at: 0,
+        have: 0,
+        flow: Flow::More,
     }
 }
 
-fn read_on(run: Run) -> Went
-    ensures { λ r. ⌜ r ≡ onward run ⌝ }
+fn goes_on(went: Went) -> bool
+    ensures { λ r. ⌜ r ≡ goesOn (went .flow) ⌝ }
 {
-    Went {
-        run: run,
-        more: !queries::is_over(run),
-        fine: true,
+    let flow = went.flow;
+    match flow {
+        Flow::More => true,
+        Flow::Ended => false,
+        Flow::Unread => false,
+        Flow::Unwritten => false,
     }
 }
 
-// The text has ended, or reading it failed.
-fn no_more(run: Run, got: isize) -> Went
-    ensures { λ r. ⌜ r .run ≡ run ⌝ }
+// By what a read answered: it failed, the text has ended, or bytes are there.
+fn read_flow(got: isize) -> Flow
+    ensures { λ r. ⌜ r ≡ readFlow got ⌝ }
 {
     if got < 0 {
-        io::write_all(2, b"sofaquery: standard input could not be read\n");
-        return stopped(run, false);
+        return Flow::Unread;
     }
-    stopped(run, true)
+    if got < 1 {
+        return Flow::Ended;
+    }
+    Flow::More
+}
+
+fn after_read(run: Run, got: isize, chunk: &[u8; 65536]) -> Went
+    ensures { λ r. ⌜ r ≡ afterRead run got ⌝ }
+{
+    Went {
+        run: run,
+        at: 0,
+        have: io::count(got, chunk),
+        flow: read_flow(got),
+    }
+}
+
+// By whether a write went well, and whether there is nothing left to do then.
+fn write_flow(ok: bool, done: bool) -> Flow
+    ensures { λ r. ⌜ r ≡ writeFlow ok done ⌝ }
+{
+    if !ok {
+        return Flow::Unwritten;
+    }
+    if done {
+        return Flow::Ended;
+    }
+    Flow::More
+}
+
+// After a turn that came to a place of the chunk, and the write of what it said.
+fn after_write(run: Run, at: usize, have: usize, ok: bool) -> Went
+    ensures { λ r. ⌜ r ≡ afterWrite run at have ok ⌝ }
+{
+    let over = queries::is_over(run);
+    Went {
+        run: run,
+        at: at,
+        have: have,
+        flow: write_flow(ok, (have <= at) & over),
+    }
 }
 
 // Writes so many bytes at the front of out: whether that went well.
 fn write(out: &[u8], count: usize) -> bool
     requires { ⌜ count ≤ length (now out) ⌝ }
 {
-    if io::write_all(1, &out[..count]) {
-        return true;
-    }
-    io::write_all(2, b"sofaquery: standard output could not be written\n");
-    false
+    io::write_all(1, &out[..count])
 }
 
-// A chunk, turn by turn.
-fn take(
-    chunk: &[u8],
-    run: Run,
+// Chunk after chunk, turn by turn.
+fn run(
     buf: &mut [u8; 40000],
     positions: &mut [f32; 768],
     responses: &mut [f32; 4096],
@@ -79,97 +130,93 @@ fn take(
     out_right: &mut [f32; 4096],
     out: &mut [u8; 73848],
 ) -> Went
-    requires { ⌜ Sound run ⌝ }
-    ensures { λ r. ⌜ TakeSays (here run (now (buf .entry)) (now (positions .entry)) (now (responses .entry)) (now (delays .entry)) (now (left .entry)) (now (right .entry)) (now (neighbours .entry)) (now (cartesian .entry))) (now (chunk .entry))
-        (here (r .run) (now (buf .exit)) (now (positions .exit)) (now (responses .exit)) (now (delays .exit)) (now (left .exit)) (now (right .exit)) (now (neighbours .exit)) (now (cartesian .exit))) r ⌝ }
-{
-    let mut t = run;
-    let mut at = 0;
-    while at < chunk.len() {
-        let told = queries::advance(
-            chunk,
-            at,
-            buf,
-            t,
-            positions,
-            responses,
-            delays,
-            left,
-            right,
-            neighbours,
-            cartesian,
-            out_left,
-            out_right,
-            out,
-        );
-        t = told.run;
-        at = told.next;
-        if !write(out, told.count) {
-            return stopped(t, false);
-        }
-    }
-    read_on(t)
-}
-
-// Reads a chunk, or finds that there is no more.
-fn take_some(
-    run: Run,
-    buf: &mut [u8; 40000],
-    positions: &mut [f32; 768],
-    responses: &mut [f32; 4096],
-    delays: &mut [f32; 4096],
-    left: &mut [u16; 256],
-    right: &mut [u16; 256],
-    neighbours: &mut [u16; 1536],
-    cartesian: &mut [f32; 768],
-    out_left: &mut [f32; 4096],
-    out_right: &mut [f32; 4096],
-    out: &mut [u8; 73848],
-) -> Went
-    requires { ⌜ Sound run ⌝ }
-    ensures { λ r. ⌜ SomeSays (here run (now (buf .entry)) (now (positions .entry)) (now (responses .entry)) (now (delays .entry)) (now (left .entry)) (now (right .entry)) (now (neighbours .entry)) (now (cartesian .entry)))
-        (here (r .run) (now (buf .exit)) (now (positions .exit)) (now (responses .exit)) (now (delays .exit)) (now (left .exit)) (now (right .exit)) (now (neighbours .exit)) (now (cartesian .exit))) r ⌝ }
+    requires { ⌜ here startRun (now buf) (now positions) (now responses) (now delays) (now left) (now right) (now neighbours) (now cartesian) (now «out_left») (now «out_right») (now out) ≡ startHeld ⌝ }
+    ensures { λ r. ⌜ Came (here (r .run) (now (buf .exit)) (now (positions .exit)) (now (responses .exit)) (now (delays .exit)) (now (left .exit)) (now (right .exit)) (now (neighbours .exit)) (now (cartesian .exit)) (now («out_left» .exit)) (now («out_right» .exit)) (now (out .exit))) r ⌝ }
 {
     let mut chunk = [0u8; 65536];
-    let got = libc::read(0, &mut chunk);
-    if got < 1 {
-        return no_more(run, got);
+    let mut went = begin();
+    // Nothing says that a text ends, and a proved loop must: it counts down from more calls than can come.
+    let mut calls = u64::MAX;
+    while calls > 0 && goes_on(went) {
+        calls -= 1;
+        let t = went.run;
+        let at = went.at;
+        let have = went.have;
+        if at < have {
+            let told = queries::advance(
+                &chunk[..have],
+                at,
+                buf,
+                t,
+                positions,
+                responses,
+                delays,
+                left,
+                right,
+                neighbours,
+                cartesian,
+                out_left,
+                out_right,
+                out,
+            );
+            let ok = write(out, told.count);
+            went = after_write(told.run, told.next, have, ok);
+        } else {
+            let got = libc::read(0, &mut chunk);
+            went = after_read(t, got, &chunk);
+        }
     }
-    let n = io::count(got, &chunk);
-    take(
-        &chunk[..n],
-        run,
-        buf,
-        positions,
-        responses,
-        delays,
-        left,
-        right,
-        neighbours,
-        cartesian,
-        out_left,
-        out_right,
-        out,
-    )
+    went
 }
 
-// What is still to be written at the end of the text stands at the front of out then: how many bytes. Nothing, where something failed.
+// What is still to be written stands at the front of out then: how many bytes. Nothing, where something failed.
 fn last(went: Went, buf: &[u8; 40000], out: &mut [u8; 73848]) -> usize
-    requires { ⌜ Sound (went .run) × (went .fine ≡ true → Ends (went .run) (now buf)) ⌝ }
-    ensures { λ r. ⌜ LastSays went (now (buf .entry)) (now (out .exit)) r ⌝ }
+    requires { ⌜ Sound (went .run) ⌝ }
+    ensures { λ r. ⌜ Front (lastText went (now (buf .entry))) (now (out .entry)) (now (out .exit)) r ⌝ }
 {
-    if !went.fine {
-        return 0;
+    let t = went.run;
+    let flow = went.flow;
+    match flow {
+        Flow::More => 0,
+        Flow::Ended => queries::finish(t, buf, out),
+        Flow::Unread => 0,
+        Flow::Unwritten => 0,
     }
-    let run = went.run;
-    queries::finish(run, buf, out)
+}
+
+// By whether that was written.
+fn end_flow(flow: Flow, ok: bool) -> Flow
+    ensures { λ r. ⌜ r ≡ endOf flow ok ⌝ }
+{
+    match flow {
+        Flow::More => Flow::More,
+        Flow::Ended => write_flow(ok, true),
+        Flow::Unread => Flow::Unread,
+        Flow::Unwritten => Flow::Unwritten,
+    }
+}
+
+// Says on standard error what failed.
+fn tell(flow: Flow) {
+    match flow {
+        Flow::More => {}
+        Flow::Ended => {}
+        Flow::Unread => {
+            io::write_all(2, b"sofaquery: standard input could not be read\n");
+        }
+        Flow::Unwritten => {
+            io::write_all(2, b"sofaquery: standard output could not be written\n");
+        }
+    }
 }
 
 fn end(went: Went, buf: &[u8; 40000], out: &mut [u8; 73848])
-    requires { ⌜ Sound (went .run) × (went .fine ≡ true → Ends (went .run) (now buf)) ⌝ }
+    requires { ⌜ Ends went (now buf) (now out) ⌝ }
 {
     let count = last(went, buf, out);
-    write(out, count);
+    let ok = write(out, count);
+    let flow = went.flow;
+    tell(end_flow(flow, ok));
 }
 
 fn main() {
@@ -184,26 +231,18 @@ fn main() {
     let mut out_left = [0.0f32; 4096];
     let mut out_right = [0.0f32; 4096];
     let mut out = [0u8; 73848];
-    let mut went = read_on(queries::start());
-    // Nothing says that a text ends, and a proved loop must: it counts down from more chunks than can come.
-    let mut turns = u64::MAX;
-    while turns > 0 && went.fine && went.more {
-        turns -= 1;
-        let run = went.run;
-        went = take_some(
-            run,
-            &mut buf,
-            &mut positions,
-            &mut responses,
-            &mut delays,
-            &mut left,
-            &mut right,
-            &mut neighbours,
-            &mut cartesian,
-            &mut out_left,
-            &mut out_right,
-            &mut out,
-        );
-    }
+    let went = run(
+        &mut buf,
+        &mut positions,
+        &mut responses,
+        &mut delays,
+        &mut left,
+        &mut right,
+        &mut neighbours,
+        &mut cartesian,
+        &mut out_left,
+        &mut out_right,
+        &mut out,
+    );
     end(went, &buf, &mut out);
 }

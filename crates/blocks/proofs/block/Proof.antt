@@ -16,34 +16,34 @@ use Rattle.blocks.proofs.block.Tie as tie
 enum-known-outcome : tie.Need-enum-known-outcome
 enum-known-outcome c = search needs
 
-slice-aggregate-filter-block : tie.Need-slice-aggregate-filter-block
-slice-aggregate-filter-block c = refl
+slice-aggregate-found-block : tie.Need-slice-aggregate-found-block
+slice-aggregate-found-block c = refl
 
-filter-block-requires : tie.Need-filter-block-requires
+found-block-requires : tie.Need-found-block-requires
 unfolding bytes
-filter-block-requires c κs =
+found-block-requires c κs =
     let s = c .before .before .before .before .before .before .before .before in
     let a = s .args in
     let d = now (a .out) in
     let g = c .before .before .before .outcome .given in
-    let text : Outcome → List ℕ = λ o. blockOf o (a .nearest) (now (a .left)) (now (a .right)) in
+    let text : Outcome → List ℕ = λ o. blockOf o (a .found) (now (a .left)) (now (a .right)) in
     let h : Room 0 (text (a .outcome)) d = omega (arith, s .pre) in
     subst (λ (o : Outcome). Room 0 (text o) d) (g .1) h
 
 enum-known-outcome-2 : tie.Need-enum-known-outcome-2
 enum-known-outcome-2 c = search needs
 
-slice-aggregate-filter-block-2 : tie.Need-slice-aggregate-filter-block-2
-slice-aggregate-filter-block-2 c = refl
+slice-aggregate-found-block-2 : tie.Need-slice-aggregate-found-block-2
+slice-aggregate-found-block-2 c = refl
 
-filter-block-requires-2 : tie.Need-filter-block-requires-2
+found-block-requires-2 : tie.Need-found-block-requires-2
 unfolding bytes
-filter-block-requires-2 c κs =
+found-block-requires-2 c κs =
     let s = c .before .before .before .before .before .before .before .before in
     let a = s .args in
     let d = now (a .out) in
     let g = c .before .before .before .outcome2 .given in
-    let text : Outcome → List ℕ = λ o. blockOf o (a .nearest) (now (a .left)) (now (a .right)) in
+    let text : Outcome → List ℕ = λ o. blockOf o (a .found) (now (a .left)) (now (a .right)) in
     let h : Room 0 (text (a .outcome)) d = omega (arith, s .pre) in
     subst (λ (o : Outcome). Room 0 (text o) d) (g .1) h
 
@@ -60,12 +60,12 @@ refused-block-requires c κs =
     let a = s .args in
     let d = now (a .out) in
     let g = c .before .before .outcome3 .given in
-    let text : Outcome → List ℕ = λ o. blockOf o (a .nearest) (now (a .left)) (now (a .right)) in
+    let text : Outcome → List ℕ = λ o. blockOf o (a .found) (now (a .left)) (now (a .right)) in
     let h : Room 0 (text (a .outcome)) d = omega (arith, s .pre) in
     subst (λ (o : Outcome). Room 0 (text o) d) (g .1) h
 
 same-length : tie.Need-same-length
-same-length c = c .before .before .filter-block .kept .1 .1 .1 .1 .1 .1 .1 .0
+same-length c = c .before .before .found-block .kept .1 .1 .1 .1 .1 .1 .1 .0
 
 returns : tie.Need-returns
 unfolding bytes
@@ -74,13 +74,13 @@ returns c =
     let a = s .args in
     let d = now (a .out) in
     let g = c .before .before .before .before .before .before .outcome .given in
-    let text : Outcome → List ℕ = λ o. blockOf o (a .nearest) (now (a .left)) (now (a .right)) in
-    let p = c .before .before .filter-block in
+    let text : Outcome → List ℕ = λ o. blockOf o (a .found) (now (a .left)) (now (a .right)) in
+    let p = c .before .before .found-block in
     let w : Wrote 0 (text (a .outcome)) d (p .result) (p .last .1 .1 .1 .1 .1 .1 .1 .0) = subst (λ (o : Outcome). Wrote 0 (text o) d (p .result) (p .last .1 .1 .1 .1 .1 .1 .1 .0)) (sym (g .1)) (p .ensures) in
     front (text (a .outcome)) d (p .result) (p .last .1 .1 .1 .1 .1 .1 .1 .0) w
 
 same-length-2 : tie.Need-same-length-2
-same-length-2 c = c .before .before .filter-block2 .kept .1 .1 .1 .1 .1 .1 .1 .0
+same-length-2 c = c .before .before .found-block2 .kept .1 .1 .1 .1 .1 .1 .1 .0
 
 returns-2 : tie.Need-returns-2
 unfolding bytes
@@ -89,8 +89,8 @@ returns-2 c =
     let a = s .args in
     let d = now (a .out) in
     let g = c .before .before .before .before .before .before .outcome2 .given in
-    let text : Outcome → List ℕ = λ o. blockOf o (a .nearest) (now (a .left)) (now (a .right)) in
-    let p = c .before .before .filter-block2 in
+    let text : Outcome → List ℕ = λ o. blockOf o (a .found) (now (a .left)) (now (a .right)) in
+    let p = c .before .before .found-block2 in
     let w : Wrote 0 (text (a .outcome)) d (p .result) (p .last .1 .1 .1 .1 .1 .1 .1 .0) = subst (λ (o : Outcome). Wrote 0 (text o) d (p .result) (p .last .1 .1 .1 .1 .1 .1 .1 .0)) (sym (g .1)) (p .ensures) in
     front (text (a .outcome)) d (p .result) (p .last .1 .1 .1 .1 .1 .1 .1 .0) w
 
@@ -104,7 +104,7 @@ returns-3 c =
     let a = s .args in
     let d = now (a .out) in
     let g = c .before .before .before .before .before .outcome3 .given in
-    let text : Outcome → List ℕ = λ o. blockOf o (a .nearest) (now (a .left)) (now (a .right)) in
+    let text : Outcome → List ℕ = λ o. blockOf o (a .found) (now (a .left)) (now (a .right)) in
     let p = c .before .before .refused-block in
     let w : Wrote 0 (text (a .outcome)) d (p .result) (p .last .1 .1 .0) = subst (λ (o : Outcome). Wrote 0 (text o) d (p .result) (p .last .1 .1 .0)) (sym (g .1)) (p .ensures) in
     front (text (a .outcome)) d (p .result) (p .last .1 .1 .0) w
@@ -114,11 +114,11 @@ block-spec =
     tie.close
     (tie.spec
     enum-known-outcome
-    slice-aggregate-filter-block
-    filter-block-requires
+    slice-aggregate-found-block
+    found-block-requires
     enum-known-outcome-2
-    slice-aggregate-filter-block-2
-    filter-block-requires-2
+    slice-aggregate-found-block-2
+    found-block-requires-2
     enum-known-outcome-3
     cast-refused-block
     refused-block-requires

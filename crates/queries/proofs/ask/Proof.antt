@@ -1,17 +1,15 @@
 -- `queries::ask` meets its contract. Assumes nothing.
 use Prim.Native.Nat.{ℕ}
 use mathlib.Core.Path.{_≡_, sym, ap, _∙_}
-use mathlib.Core.List.{List, []}
-use lib.ListN.{length}
+use mathlib.Core.List.{List}
 use lib.Seq.{length-take-le}
 use denote.Ref.{now}
 use mir.Facts.{fits-16-64}
-use Rattle.lists.specs.Over.{over}
-use Rattle.lists.proofs.Laws.{over-nil}
 use Rattle.loads.specs.Load.{workOf}
 use Rattle.answers.specs.Answers.{Answered, answeredOf}
 use Rattle.queries.specs.declared.Phase.{Phase}
-use Rattle.queries.specs.Program.{blockIn}
+use Rattle.queries.specs.Program.{blockIn, Ears, earsOf, earsIn}
+use Rattle.queries.proofs.Turns.{nothing, put, laid, same-ears, renamed}
 use borrow.Author.Needs.{needs}
 use Rattle.queries.proofs.ask.Statement.{statement}
 use Rattle.queries.proofs.ask.Tie as tie
@@ -52,9 +50,11 @@ enum-told-2 c = search needs
 returns : tie.Need-returns
 returns c =
     let a = c .before .before .before .before .before .before .before .before .before .before .before .before .args in
-    let e : blockIn (a .f) (a .s) (now (a .responses)) (now (a .delays)) (workOf (now (a .left)) (now (a .right)) (now (a .neighbours)) (now (a .cartesian))) (a .q) ≡ [] =
-    ap (λ (f : Phase). blockIn f (a .s) (now (a .responses)) (now (a .delays)) (workOf (now (a .left)) (now (a .right)) (now (a .neighbours)) (now (a .cartesian))) (a .q)) (c .enum-told .given .1) in
-    (sym (ap length e), sym (ap (λ (t : List ℕ). over t (now (a .out))) e ∙ over-nil (now (a .out))))
+    let w = workOf (now (a .left)) (now (a .right)) (now (a .neighbours)) (now (a .cartesian)) in
+    let block : Phase → List ℕ = λ f. blockIn f (a .s) (now (a .responses)) (now (a .delays)) w (a .q) in
+    let ears : Phase → Ears = λ f. earsIn f (a .s) (now (a .responses)) (now (a .delays)) w (a .q) (earsOf (now (a .out-left)) (now (a .out-right))) in
+    let e : a .f ≡ _ = c .enum-told .given .1 in
+    record { printed = renamed (sym (ap block e)) (nothing (now (a .out))); ears = sym (ap ears e) }
 
 same-length : tie.Need-same-length
 same-length c = search needs
@@ -68,17 +68,25 @@ same-length-3 c = search needs
 returns-2 : tie.Need-returns-2
 unfolding answeredOf
 returns-2 c =
-    let a = c .before .before .before .before .before .before .before .before .before .before .before .before .before .before .before .before .before .before .before .before .before .before .before .args in
-    let e = ap (λ (f : Phase). blockIn f (a .s) (now (a .responses)) (now (a .delays)) (workOf (now (a .left)) (now (a .right)) (now (a .neighbours)) (now (a .cartesian))) (a .q)) (c .before .before .before .before .before .before .before .before .before .before .before .f .given .1) in
-    let w = c .before .before .before .before .before .before .answer .ensures in
-    (ap (λ (z : Answered). z .count) w ∙ sym (ap length e), ap (λ (z : Answered). z .out) w ∙ sym (ap (λ (t : List ℕ). over t (now (a .out))) e))
+    let s = c .before .before .before .before .before .before .before .before .before .before .before .before .before .before .before .before .before .before .before .before .before .before .before in
+    let a = s .args in
+    let w = workOf (now (a .left)) (now (a .right)) (now (a .neighbours)) (now (a .cartesian)) in
+    let block : Phase → List ℕ = λ f. blockIn f (a .s) (now (a .responses)) (now (a .delays)) w (a .q) in
+    let ears : Phase → Ears = λ f. earsIn f (a .s) (now (a .responses)) (now (a .delays)) w (a .q) (earsOf (now (a .out-left)) (now (a .out-right))) in
+    let e = c .before .before .before .before .before .before .before .before .before .before .before .f .given .1 in
+    let told = c .before .before .before .before .before .before .answer in
+    let left = laid (now (a .out-left)) (ap (λ (z : Answered). z .left) (told .ensures)) (told .kept .1 .1 .1 .1 .1 .1 .1 .1 .1 .0 ∙ length-take-le (a .s .n) (now (a .out-left)) (s .pre .1)) in
+    let right = laid (now (a .out-right)) (ap (λ (z : Answered). z .right) (told .ensures)) (told .kept .1 .1 .1 .1 .1 .1 .1 .1 .1 .1 .0 ∙ length-take-le (a .s .n) (now (a .out-right)) (s .pre .2)) in
+    record { printed = renamed (sym (ap block e)) (put (ap (λ (z : Answered). z .count) (told .ensures)) (ap (λ (z : Answered). z .out) (told .ensures))); ears = same-ears left right ∙ sym (ap ears e) }
 
 returns-3 : tie.Need-returns-3
 returns-3 c =
     let a = c .before .before .before .before .before .before .before .before .before .before .before .before .args in
-    let e : blockIn (a .f) (a .s) (now (a .responses)) (now (a .delays)) (workOf (now (a .left)) (now (a .right)) (now (a .neighbours)) (now (a .cartesian))) (a .q) ≡ [] =
-    ap (λ (f : Phase). blockIn f (a .s) (now (a .responses)) (now (a .delays)) (workOf (now (a .left)) (now (a .right)) (now (a .neighbours)) (now (a .cartesian))) (a .q)) (c .enum-told2 .given .1) in
-    (sym (ap length e), sym (ap (λ (t : List ℕ). over t (now (a .out))) e ∙ over-nil (now (a .out))))
+    let w = workOf (now (a .left)) (now (a .right)) (now (a .neighbours)) (now (a .cartesian)) in
+    let block : Phase → List ℕ = λ f. blockIn f (a .s) (now (a .responses)) (now (a .delays)) w (a .q) in
+    let ears : Phase → Ears = λ f. earsIn f (a .s) (now (a .responses)) (now (a .delays)) w (a .q) (earsOf (now (a .out-left)) (now (a .out-right))) in
+    let e : a .f ≡ _ = c .enum-told2 .given .1 in
+    record { printed = renamed (sym (ap block e)) (nothing (now (a .out))); ears = sym (ap ears e) }
 
 pub ask-spec : {M : Type 1} → statement M
 ask-spec =

@@ -1,14 +1,15 @@
 -- `queries::by_step` meets its contract. Assumes nothing.
 use native.Mathlib.Nat.{le-trans}
 use native.Mathlib.Omega.{arith}
-use mathlib.Core.Path.{refl, subst}
+use mathlib.Core.Path.{refl, sym, ap, subst, _∙_}
 use denote.Ref.{now}
 use Rattle.setread.specs.Kept.{Reached}
 use Rattle.loads.specs.Load.{workOf}
 use Rattle.blocks.proofs.Rooms.{error-room}
-use Rattle.queries.specs.Program.{listsOf}
+use Rattle.settext.specs.declared.Step.{Step}
+use Rattle.queries.specs.Program.{listsOf, Ears, earsOf, stepEars}
 use Rattle.queries.specs.Sound.{Few}
-use Rattle.queries.proofs.Turns.{points-in, refusal-in, block-in, fits, step-next, step-complete, step-query, step-bad}
+use Rattle.queries.proofs.Turns.{points-in, refusal-in, block-in, nothing, put, says, step-next, step-complete, step-query, step-bad}
 use borrow.Author.Needs.{needs}
 use Rattle.queries.proofs.by_step.Statement.{statement}
 use Rattle.queries.proofs.by_step.Tie as tie
@@ -51,7 +52,8 @@ returns c =
     let a = c .before .before .before .before .before .before .before .before .before .before .before .before .before .before .args in
     let d = listsOf (now (a .positions)) (now (a .responses)) (now (a .delays)) in
     let w = workOf (now (a .left)) (now (a .right)) (now (a .neighbours)) (now (a .cartesian)) in
-    record { same = step-next (a .f) d w (a .step) _ _ (c .moved-to .ensures) (c .before .before .step .given .1); count = omega arith }
+    let ears : Step → Ears = λ t. stepEars (a .f) t d w (earsOf (now (a .out-left)) (now (a .out-right))) in
+    record { turn = says (step-next (a .f) d w (a .step) _ _ (c .moved-to .ensures) (c .before .before .step .given .1)) (nothing _); ears = sym (ap ears (c .before .before .step .given .1)) }
 
 same-length : tie.Need-same-length
 same-length c = c .before .before .before .before .before .before .before .before .before .before .complete .kept .1 .1 .1 .0
@@ -73,8 +75,9 @@ returns-2 c =
     let a = c .before .before .before .before .before .before .before .before .before .before .before .before .before .before .before .before .before .before .before .before .before .before .before .before .before .before .before .before .before .args in
     let d = listsOf (now (a .positions)) (now (a .responses)) (now (a .delays)) in
     let w = workOf (now (a .left)) (now (a .right)) (now (a .neighbours)) (now (a .cartesian)) in
+    let ears : Step → Ears = λ t. stepEars (a .f) t d w (earsOf (now (a .out-left)) (now (a .out-right))) in
     let r = c .before .before .before .before .before .before .before .before .before .before .complete .ensures in
-    record { same = step-complete (a .f) d w (a .step) _ _ (r .same d) (c .before .before .before .before .before .before .before .before .before .before .before .before .before .before .before .before .before .step2 .given .1); count = r .count }
+    record { turn = step-complete (a .f) d w (a .step) _ (r d) (c .before .before .before .before .before .before .before .before .before .before .before .before .before .before .before .before .before .step2 .given .1); ears = sym (ap ears (c .before .before .before .before .before .before .before .before .before .before .before .before .before .before .before .before .before .step2 .given .1)) }
 
 same-length-6 : tie.Need-same-length-6
 same-length-6 c = refl
@@ -102,8 +105,9 @@ returns-3 c =
     let a = c .before .before .before .before .before .before .before .before .before .before .before .before .before .before .before .before .before .before .before .before .before .before .before .before .before .before .before .before .args in
     let d = listsOf (now (a .positions)) (now (a .responses)) (now (a .delays)) in
     let w = workOf (now (a .left)) (now (a .right)) (now (a .neighbours)) (now (a .cartesian)) in
+    let ears : Step → Ears = λ t. stepEars (a .f) t d w (earsOf (now (a .out-left)) (now (a .out-right))) in
     let r = c .before .before .before .before .before .before .ask .ensures in
-    record { same = step-query (a .f) d w (a .step) _ _ _ _ _ _ (c .before .before .before .before .before .before .before .before .before .before .before .before .before .before .moved-to2 .ensures) (c .before .before .before .before .before .before .before .before .before .before .before .before .before .before .before .before .step3 .given .1) (r .0) (r .1); count = fits _ _ _ _ (r .0) (r .1) }
+    record { turn = says (step-query (a .f) d w (a .step) _ _ _ (c .before .before .before .before .before .before .before .before .before .before .before .before .before .before .moved-to2 .ensures) (c .before .before .before .before .before .before .before .before .before .before .before .before .before .before .before .before .step3 .given .1)) (r .printed); ears = r .ears ∙ sym (ap ears (c .before .before .before .before .before .before .before .before .before .before .before .before .before .before .before .before .step3 .given .1)) }
 
 same-length-13 : tie.Need-same-length-13
 same-length-13 c = c .before .before .form-error .kept .1 .0
@@ -113,8 +117,9 @@ returns-4 c =
     let a = c .before .before .before .before .before .before .before .before .before .before .before .before .before .before .before .before .before .args in
     let d = listsOf (now (a .positions)) (now (a .responses)) (now (a .delays)) in
     let w = workOf (now (a .left)) (now (a .right)) (now (a .neighbours)) (now (a .cartesian)) in
+    let ears : Step → Ears = λ t. stepEars (a .f) t d w (earsOf (now (a .out-left)) (now (a .out-right))) in
     let r = c .before .before .form-error .ensures in
-    record { same = step-bad (a .f) d w (a .step) _ _ _ _ (c .before .before .before .before .before .step4 .given .1) (r .0) (r .1); count = fits _ _ _ _ (r .0) (r .1) }
+    record { turn = says (step-bad (a .f) d w (a .step) _ (c .before .before .before .before .before .step4 .given .1)) (put (r .0) (r .1)); ears = sym (ap ears (c .before .before .before .before .before .step4 .given .1)) }
 
 pub by-step-spec : {M : Type 1} → statement M
 by-step-spec =

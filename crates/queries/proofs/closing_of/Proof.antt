@@ -1,12 +1,14 @@
 -- `queries::closing_of` meets its contract. Assumes nothing.
+use Prim.Native.Nat.{ℕ}
 use mathlib.Core.Path.{sym, ap, _∙_}
-use native.Mathlib.Omega.{arith}
-use lib.ListN.{take}
+use mathlib.Core.List.{List}
+use lib.ListN.{length, take}
 use lib.Seq.{length-take-le}
 use denote.Ref.{now}
+use Rattle.lists.specs.Over.{over}
+use Rattle.lists.proofs.Laws.{over-nil}
 use Rattle.queries.specs.declared.Phase.{Phase}
 use Rattle.queries.specs.Program.{closing}
-use Rattle.queries.proofs.Turns.{front, fits}
 use borrow.Author.Needs.{needs}
 use Rattle.queries.proofs.closing_of.Statement.{statement}
 use Rattle.queries.proofs.closing_of.Tie as tie
@@ -44,7 +46,8 @@ returns c =
     let s = c .before .before .before .before .before .before .before .before .before .before in
     let rest = take (s .args .t .used) (now (s .args .buf)) in
     let w = c .before .before .end .ensures in
-    record { same = front _ _ _ _ (w .0) (w .1) ∙ sym (ap (λ (f : Phase). closing f rest) (c .before .before .before .before .before .before .f .given .1)); count = fits _ _ _ _ (w .0) (w .1) }
+    let e = sym (ap (λ (f : Phase). closing f rest) (c .before .before .before .before .before .before .f .given .1)) in
+    record { count = w .0 ∙ ap length e; same = w .1 ∙ ap (λ (b : List ℕ). over b (now (s .args .out))) e }
 
 same-length-2 : tie.Need-same-length-2
 same-length-2 c = search needs
@@ -54,12 +57,14 @@ returns-2 c =
     let s = c .before .before .before .before .before .before .before .before .before .before in
     let rest = take (s .args .t .used) (now (s .args .buf)) in
     let w = c .before .before .end2 .ensures in
-    record { same = front _ _ _ _ (w .0) (w .1) ∙ sym (ap (λ (f : Phase). closing f rest) (c .before .before .before .before .before .before .f2 .given .1)); count = fits _ _ _ _ (w .0) (w .1) }
+    let e = sym (ap (λ (f : Phase). closing f rest) (c .before .before .before .before .before .before .f2 .given .1)) in
+    record { count = w .0 ∙ ap length e; same = w .1 ∙ ap (λ (b : List ℕ). over b (now (s .args .out))) e }
 
 returns-3 : tie.Need-returns-3
 returns-3 c =
     let s = c .before .before .before .before in
-    record { same = sym (ap (λ (f : Phase). closing f (take (s .args .t .used) (now (s .args .buf)))) (c .enum-told .given .1)); count = omega arith }
+    let e = sym (ap (λ (f : Phase). closing f (take (s .args .t .used) (now (s .args .buf)))) (c .enum-told .given .1)) in
+    record { count = ap length e; same = sym (over-nil (now (s .args .out))) ∙ ap (λ (b : List ℕ). over b (now (s .args .out))) e }
 
 pub closing-of-spec : {M : Type 1} → statement M
 closing-of-spec =

@@ -4,7 +4,7 @@ use mathlib.Core.Path.{_∙_}
 use native.Mathlib.Nat.{zero-add}
 use Rattle.blocks.specs.Put.{into}
 use Rattle.blocks.proofs.Rooms.{refused-room}
-use Rattle.queries.proofs.Turns.{fits, load-ready, load-refused}
+use Rattle.queries.proofs.Turns.{nothing, put, says, load-ready, load-refused}
 use borrow.Author.Needs.{needs}
 use Rattle.queries.proofs.complete.Statement.{statement}
 use Rattle.queries.proofs.complete.Tie as tie
@@ -39,10 +39,7 @@ same-length-4 : tie.Need-same-length-4
 same-length-4 c = c .before .before .before .before .before .before .before .before .before .before .before .load .kept .1 .1 .1 .1 .1 .1 .0
 
 returns : tie.Need-returns
-returns c = record {
-  same = λ d. load-ready (c .before .before .before .before .before .before .before .before .before .before .before .before .before .before .before .before .before .before .before .before .before .before .before .args .s) d _ _ _ (c .before .before .before .before .before .before .before .before .before .before .before .load .ensures) _ (c .before .look .given .1);
-  count = omega arith;
-}
+returns c d = says (load-ready (c .before .before .before .before .before .before .before .before .before .before .before .before .before .before .before .before .before .before .before .before .before .before .before .args .s) d _ _ _ (c .before .before .before .before .before .before .before .before .before .before .before .load .ensures) _ (c .before .look .given .1)) (nothing _)
 
 same-length-5 : tie.Need-same-length-5
 same-length-5 c = c .before .before .before .before .before .before .before .before .before .before .before .before .before .before .before .load .kept .1 .1 .1 .0
@@ -61,13 +58,9 @@ same-length-9 c = c .before .before .refused-block .kept .1 .1 .0
 
 returns-2 : tie.Need-returns-2
 unfolding into
-returns-2 c =
+returns-2 c d =
     let w = c .before .before .refused-block .ensures in
-    let e = w .0 ∙ zero-add _ in
-    record {
-      same = λ d. load-refused (c .before .before .before .before .before .before .before .before .before .before .before .before .before .before .before .before .before .before .before .before .before .before .before .before .before .before .before .args .s) d _ _ _ (c .before .before .before .before .before .before .before .before .before .before .before .before .before .before .before .load .ensures) _ _ (c .before .before .before .before .before .reason .given .1) _ _ _ e (w .1);
-      count = fits _ _ _ _ e (w .1);
-    }
+    says (load-refused (c .before .before .before .before .before .before .before .before .before .before .before .before .before .before .before .before .before .before .before .before .before .before .before .before .before .before .before .args .s) d _ _ _ (c .before .before .before .before .before .before .before .before .before .before .before .before .before .before .before .load .ensures) _ _ (c .before .before .before .before .before .reason .given .1)) (put (w .0 ∙ zero-add _) (w .1))
 
 pub complete-spec : {M : Type 1} → statement M
 complete-spec =

@@ -1,9 +1,9 @@
 -- `queries::take_line` meets its contract. Assumes nothing.
-use mathlib.Core.Path.{_∙_}
+use mathlib.Core.Path.{ap, _∙_}
 use denote.Ref.{now}
 use Rattle.loads.specs.Load.{workOf}
-use Rattle.queries.specs.Program.{listsOf}
-use Rattle.queries.proofs.Turns.{of-kept, line-few, line-turn}
+use Rattle.queries.specs.Program.{Turn, listsOf}
+use Rattle.queries.proofs.Turns.{of-kept, renamed, line-few, line-turn, line-ears-of}
 use Rattle.queries.proofs.take_line.Statement.{statement}
 use Rattle.queries.proofs.take_line.Tie as tie
 
@@ -61,7 +61,11 @@ returns c =
     let t = c .before .before .before .before .before .before .before .before .before .before .before .before .before .before .before .before .before .before .before .before .before .before .before .before .before .before .before .before .before .before .before .take-line in
     let w = workOf (now (a .left)) (now (a .right)) (now (a .neighbours)) (now (a .cartesian)) in
     let r = c .before .before .before .before .before .before .before .before .before .before .before .before .before .before .by-step .ensures in
-    record { same = r .same ∙ line-turn (a .f) d (now (a .line)) _ _ (t .ensures) (c .before .before .before .before .before .before .before .before .before .before .before .before .before .before .before .before .before .before .before .before .before .before .before .before .before .before .before .before .before .before .before .before .before .before .before .state-in .ensures) w; count = r .count }
+    let at = line-turn (a .f) d (now (a .line)) _ _ (t .ensures) (c .before .before .before .before .before .before .before .before .before .before .before .before .before .before .before .before .before .before .before .before .before .before .before .before .before .before .before .before .before .before .before .before .before .before .before .state-in .ensures) w in
+    record {
+      turn = record { session = r .turn .session ∙ ap (λ (t : Turn). t .session) at; printed = renamed (ap (λ (t : Turn). t .printed) at) (r .turn .printed) };
+      ears = r .ears ∙ line-ears-of (a .f) d (now (a .line)) _ _ (t .ensures) (c .before .before .before .before .before .before .before .before .before .before .before .before .before .before .before .before .before .before .before .before .before .before .before .before .before .before .before .before .before .before .before .before .before .before .before .state-in .ensures) w _;
+    }
 
 pub take-line-spec : {M : Type 1} → statement M
 take-line-spec =

@@ -1,16 +1,17 @@
 -- `queries::turn` meets its contract. Assumes nothing.
 use native.Mathlib.Omega.{arith}
 use mathlib.Core.Path.{sym, ap, subst, _∙_}
+use mathlib.Core.List.{[]}
 use lib.Dec.{lit≤}
 use lib.ListN.{take, drop}
 use lib.Seq.{length-take-le}
 use denote.Ref.{now}
 use Rattle.loads.specs.Load.{workOf}
-use Rattle.queries.specs.Program.{Turn, session, listsOf}
+use Rattle.queries.specs.Program.{Session, session, listsOf, earsOf}
 use Rattle.queries.specs.Sound.{SoundPhase}
-use Rattle.queries.specs.Machine.{between}
+use Rattle.queries.specs.Machine.{between, Advance}
 use Rattle.queries.proofs.Keeps.{turn-sound}
-use Rattle.queries.proofs.Turns.{used-in, all-over, found-line, found-more, a-line, no-line}
+use Rattle.queries.proofs.Turns.{used-in, nothing, renamed, silent-ears, all-over, found-line, found-more, a-line, line-ears, no-line, more-ears}
 use borrow.Author.Needs.{needs}
 use Rattle.queries.proofs.turn.Statement.{statement}
 use Rattle.queries.proofs.turn.Tie as tie
@@ -25,12 +26,16 @@ returns c =
     let d = listsOf (now (a .positions)) (now (a .responses)) (now (a .delays)) in
     let w = workOf (now (a .left)) (now (a .right)) (now (a .neighbours)) (now (a .cartesian)) in
     let k = session (a .t .phase) d w in
+    let o = sym (c .before .is-over .ensures) ∙ c .if1 .taken in
+    let v = all-over 40000 (between k (take (a .t .used) (now (a .buf)))) (drop (a .at) (now (a .chunk))) (now (a .chunk)) o in
     record {
-      same = all-over 40000 (between k (take (a .t .used) (now (a .buf)))) (drop (a .at) (now (a .chunk))) (now (a .chunk)) (sym (c .before .is-over .ensures) ∙ c .if1 .taken);
+      place = ap (λ (v : Advance). v .place) v;
+      left = ap (λ (v : Advance). v .left) v;
+      printed = renamed (ap (λ (v : Advance). v .printed) v) (nothing (now (a .out)));
+      ears = silent-ears 40000 (between k (take (a .t .used) (now (a .buf)))) (drop (a .at) (now (a .chunk))) _ o;
       sound = s .pre .1;
       next = omega arith;
       moves = λ h. h;
-      count = omega arith;
     }
 
 next-line-requires : tie.Need-next-line-requires
@@ -105,12 +110,15 @@ returns-2 c =
     let g = c .before .before .before .before .before .before .before .before .before .before .before .before .before .before .before .before .before .before .before .before .before .before .before .before .before .before .before .before .before .before .before .before .before .next .given in
     let f = found-line (now (a .buf)) (now (a .chunk)) (a .at) _ _ _ (g .1) (n .ensures .within) in
     let t = c .before .before .before .before .before .before .before .before .before .before .before .before .before .before .before .before .before .before .before .before .take-line .ensures in
+    let v = rw (s .pre .2) at (a-line (now (a .buf)) (n .last .1 .1 .0) (now (a .chunk)) k (a .at) (a .t .used) (n .result) (sym (c .before .before .before .before .before .before .before .before .before .before .before .before .before .before .before .before .before .before .before .before .before .before .before .before .before .before .before .before .before .before .before .before .before .before .before .before .before .before .before .before .is-over .ensures) ∙ c .before .before .before .before .before .before .before .before .before .before .before .before .before .before .before .before .before .before .before .before .before .before .before .before .before .before .before .before .before .before .before .before .before .before .before .before .before .before .before .if1 .left) (n .ensures .same) (g .0 .0) (g .0 .1 .0) (g .1)) in
     record {
-      same = rw (s .pre .2) at (a-line (now (a .buf)) (n .last .1 .1 .0) (now (a .chunk)) k (a .at) (a .t .used) (n .result) (sym (c .before .before .before .before .before .before .before .before .before .before .before .before .before .before .before .before .before .before .before .before .before .before .before .before .before .before .before .before .before .before .before .before .before .before .before .before .before .before .before .before .is-over .ensures) ∙ c .before .before .before .before .before .before .before .before .before .before .before .before .before .before .before .before .before .before .before .before .before .before .before .before .before .before .before .before .before .before .before .before .before .before .before .before .before .before .before .if1 .left) (n .ensures .same) (g .0 .0) (g .0 .1 .0) (g .1) _ (t .same));
-      sound = record { limits = subst SoundPhase (sym (ap (λ (t : Turn). t .session .phase) (t .same))) (turn-sound k (take (g .0 .1 .0) (n .last .1 .1 .0)) (s .pre .1 .limits)); used = lit≤ tt };
+      place = ap (λ (k : Session). between k []) (t .turn .session) ∙ ap (λ (v : Advance). v .place) v;
+      left = ap (λ (v : Advance). v .left) v;
+      printed = renamed (ap (λ (v : Advance). v .printed) v) (t .turn .printed);
+      ears = t .ears ∙ (rw (s .pre .2) at (line-ears (now (a .buf)) (n .last .1 .1 .0) (now (a .chunk)) k (a .at) (a .t .used) (n .result) (sym (c .before .before .before .before .before .before .before .before .before .before .before .before .before .before .before .before .before .before .before .before .before .before .before .before .before .before .before .before .before .before .before .before .before .before .before .before .before .before .before .before .is-over .ensures) ∙ c .before .before .before .before .before .before .before .before .before .before .before .before .before .before .before .before .before .before .before .before .before .before .before .before .before .before .before .before .before .before .before .before .before .before .before .before .before .before .before .if1 .left) (n .ensures .same) (g .0 .0) (g .0 .1 .0) (g .1) (earsOf (now (a .out-left)) (now (a .out-right)))));
+      sound = record { limits = subst SoundPhase (sym (ap (λ (k : Session). k .phase) (t .turn .session))) (turn-sound k (take (g .0 .1 .0) (n .last .1 .1 .0)) (s .pre .1 .limits)); used = lit≤ tt };
       next = f .2;
       moves = λ h. f .1;
-      count = t .count;
     }
 
 same-length-12 : tie.Need-same-length-12
@@ -126,12 +134,15 @@ returns-3 c =
     let n = c .before .before .before .before .before .next-line in
     let g = c .before .n .given in
     let f = found-more (now (a .buf)) (now (a .chunk)) (a .at) _ _ (g .1) (n .ensures .within) in
+    let v = rw (s .pre .2) at (no-line (now (a .buf)) (n .last .1 .1 .0) (now (a .chunk)) k (a .at) (a .t .used) (n .result) (sym (c .before .before .before .before .before .before .before .before .is-over .ensures) ∙ c .before .before .before .before .before .before .before .if1 .left) (n .ensures .same) (g .0 .0) (g .1)) in
     record {
-      same = rw (s .pre .2) at (no-line (now (a .buf)) (n .last .1 .1 .0) (now (a .chunk)) k (a .at) (a .t .used) (n .result) (sym (c .before .before .before .before .before .before .before .before .is-over .ensures) ∙ c .before .before .before .before .before .before .before .if1 .left) (n .ensures .same) (g .0 .0) (g .1));
+      place = ap (λ (v : Advance). v .place) v;
+      left = ap (λ (v : Advance). v .left) v;
+      printed = renamed (ap (λ (v : Advance). v .printed) v) (nothing (now (a .out)));
+      ears = rw (s .pre .2) at (more-ears (now (a .buf)) (n .last .1 .1 .0) (now (a .chunk)) k (a .at) (a .t .used) (n .result) (sym (c .before .before .before .before .before .before .before .before .is-over .ensures) ∙ c .before .before .before .before .before .before .before .if1 .left) (n .ensures .same) (g .0 .0) (g .1) (earsOf (now (a .out-left)) (now (a .out-right))));
       sound = record { limits = s .pre .1 .limits; used = omega (arith, f, s .pre .2) };
       next = omega arith;
       moves = λ h. h;
-      count = omega arith;
     }
 
 pub turn-spec : {M : Type 1} → statement M
