@@ -9,7 +9,7 @@ use lib.IntN.{ℤ, pos, negsuc}
 use lib.Ieee.{Float, fin, binary64, up, down, fits, mul, le, ofBits}
 use lib.Ieee.Fits.{mul-fits}
 use Rattle.floats.proofs.Ratio.{mul-shrinks}
-use Rattle.floats.proofs.Cross.{cross→le, le→cross}
+use Rattle.floats.proofs.Cross.{cross→le, nonneg-cross}
 use Rattle.floats.proofs.Preorder.{le-trans-f}
 use Rattle.sines.specs.Sines.{one, num, plus, less, times, sinPoly, cosPoly}
 use Rattle.angle_laws.specs.Series.{fact, sinTop, sinBot, cosTop, cosBot}
@@ -67,12 +67,6 @@ shrink m e n d f h = mul-shrinks binary64 (fin false m e) (fin false n d) tt tt 
 
 back : (a b : ℕ) → b ≤ a → a - b + b ≡ a
 back a b h = omega arith
-
-cross-of : (m : ℕ) (e : ℤ) (n : ℕ) (d : ℤ) → T (le (fin false m e) (fin false n d)) → m * up e * down d ≤ n * up d * down e
-cross-of m e n d h = go (m * up e * down d) (n * up d * down e) (down e) (down d) (le→cross (fin false m e) (fin false n d) tt tt h)
-  where
-    go : (x y u v : ℕ) → x + 0 * u ≤ y + 0 * v → x ≤ y
-    go x y u v h = omega arith
 
 -- ---- the sine
 -- the parts' numerators g₁ and g₂, as numbers
@@ -161,7 +155,7 @@ module _ (w : Float) (R D : ℕ) (dp : 0 < D) (un : R * 1000 ≤ 786 * D) (a : A
       (shrink (c .m) (c .x') (s₁ .m) (s₁ .x') (subst (λ (v : Float). T (fits binary64 v)) (c .is) (mul-fits binary64 w (times w w))) (one-of 715827379 4294967296 1 s₁ (lit< tt) (lit≤ tt))))
 
   ck-le : ck .m * up (ck .x') * down (a .x') ≤ a .m * up (a .x') * down (ck .x')
-  ck-le = cross-of (ck .m) (ck .x') (a .m) (a .x') (subst (λ (v : Float). T (le v (fin false (a .m) (a .x')))) (ck .is) (subst (λ (v : Float). T (le (times (times w (times w w)) (num 4595172815570052611)) v)) (a .is) (le-trans-f _ _ _ le-ck le-c)))
+  ck-le = nonneg-cross (ck .m) (ck .x') (a .m) (a .x') (subst (λ (v : Float). T (le v (fin false (a .m) (a .x')))) (ck .is) (subst (λ (v : Float). T (le (times (times w (times w w)) (num 4595172815570052611)) v)) (a .is) (le-trans-f _ _ _ le-ck le-c)))
 
   g₁ : ℕ
   g₁ = R * (D * D) * 4294967296 - R * (R * R) * 715827379

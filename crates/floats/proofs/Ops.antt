@@ -1,7 +1,7 @@
 -- The rounded operations keep the order. A difference x - y with y < x is not negative, grows with x and falls with y; a square grows with the magnitude;
 -- a sum of values that are not negative grows with each, and is no less than either. Overflow to an infinity and underflow to 0 are included. Assumes nothing.
 use mathlib.Core.Path.{_≡_, refl, sym, ap, _∙_, subst}
-use Prim.Native.Nat.{ℕ, _+_, _-_, _*_, _≤_, _<_}
+use Prim.Native.Nat.{ℕ, _+_, _-_, _*_, _<_}
 use native.Mathlib.Nat.{le-of-lt, not-le-of-lt, mul-comm, mul-one, one-mul, zero-mul, add-zero, add-comm, mul-pos}
 use native.Mathlib.Omega.{arith}
 use mathlib.Core.Bool.{Bool, true, false, not, _&&_, cond}
@@ -12,7 +12,7 @@ use lib.Ieee.Fits.{down-pos}
 use lib.Ieee.Order.{round-mono}
 use lib.Ieee.Positive.{den, den-pos}
 use lib.Ieee.Scale.{finite}
-use Rattle.floats.proofs.Cross.{plus, less, cross, lt-is, le→cross, cross→le, shift, shift-below, sums, squares}
+use Rattle.floats.proofs.Cross.{plus, less, cross, lt-is, le→cross, cross→le, nonneg-cross, shift, shift-below, sums, squares}
 use Rattle.floats.proofs.Preorder.{number, le-nan, nan-le, le-refl-f, lt-le-trans, le-lt-trans}
 use Rattle.floats.proofs.Sign.{nonneg, round-neg, round-nonneg, sq-neg}
 use Rattle.floats.proofs.Values.{round-back}
@@ -202,9 +202,6 @@ sq-nonneg f nan t = unfold isNan in absurd t
 sq-nonneg f (inf true) t = unfold mul in tt
 sq-nonneg f (inf false) t = unfold mul in tt
 sq-nonneg f (fin s m e) t = subst (λ (z : Float). T (nonneg z)) (sym (unlike-self f s m e)) (round-nonneg f (m * up e * (m * up e)) (down e * down e))
-
-nonneg-cross : (m : ℕ) (e : ℤ) (n : ℕ) (d : ℤ) → T (le (fin false m e) (fin false n d)) → m * up e * down d ≤ n * up d * down e
-nonneg-cross m e n d h = omega (arith, le→cross (fin false m e) (fin false n d) tt tt h)
 
 pub sq-mono : (f : Format) (x y : Float) → T (nonneg x) → T (nonneg y) → T (le x y) → T (le (mul f x x) (mul f y y))
 sq-mono f nan y p q h = absurd p

@@ -12,7 +12,7 @@ use lib.Ieee.{Float, nan, inf, fin, Format, up, down, round, mul, div, le, fits,
 use lib.Ieee.Fits.{up-pos, down-pos}
 use lib.Ieee.Order.{round-mono}
 use lib.Ieee.Positive.{num, positive}
-use Rattle.floats.proofs.Cross.{le→cross}
+use Rattle.floats.proofs.Cross.{le→cross, nonneg-cross}
 use Rattle.floats.proofs.Values.{value-unique, round-back}
 
 abbrev pub one : Float
@@ -35,9 +35,6 @@ abbrev pub magnitude : Float → Bool
 magnitude nan = false
 magnitude (inf s) = false
 magnitude (fin s m e) = not s
-
-mag-cross : (m : ℕ) (e : ℤ) (n : ℕ) (d : ℤ) → T (le (fin false m e) (fin false n d)) → m * up e * down d ≤ n * up d * down e
-mag-cross m e n d h = omega (arith, le→cross (fin false m e) (fin false n d) tt tt h)
 
 -- ---- quotients
 div-is : (f : Format) (m : ℕ) (e : ℤ) (n : ℕ) (d : ℤ) → T (ltb 0 n) → div f (fin false m e) (fin false n d) ≡ round f false (m * up e * down d) (n * up d * down e)
@@ -74,7 +71,7 @@ div-mono f (fin false m e) (fin false m' e') (fin false n d) (fin false n' d') p
     subst (λ (z : Float). T (le z (div f (fin false m' e') (fin false n' d')))) (sym (div-is f m e n d q))
     (subst (λ (z : Float). T (le (round f false (m * up e * down d) (n * up d * down e)) z)) (sym (div-is f m' e' n' d' q'))
     (round-mono f (m * up e * down d) (n * up d * down e) (m' * up e' * down d') (n' * up d' * down e') (mul-pos (mul-pos (ltb→lt 0 n q) (up-pos d)) (down-pos e)) (mul-pos (mul-pos (ltb→lt 0 n' q') (up-pos d')) (down-pos e'))
-    (quotients (m * up e) (down e) (m' * up e') (down e') (n * up d) (down d) (n' * up d') (down d') (mag-cross m e m' e' h) (mag-cross n' d' n d k))))
+    (quotients (m * up e) (down e) (m' * up e') (down e') (n * up d) (down d) (n' * up d') (down d') (nonneg-cross m e m' e' h) (nonneg-cross n' d' n d k))))
 
 pub div-le-one : (f : Format) (x y : Float) → T (magnitude x) → T (positive y) → T (le x y) → T (le (div f x y) one)
 div-le-one f nan y p q h = absurd p
@@ -86,7 +83,7 @@ div-le-one f (fin false m e) (fin true n d) p q h = absurd q
 div-le-one f (fin false m e) (fin false n d) p q h =
     subst (λ (z : Float). T (le z one)) (sym (div-is f m e n d q))
     (round-le f (m * up e * down d) (n * up d * down e) 1 (pos 0) (mul-pos (mul-pos (ltb→lt 0 n q) (up-pos d)) (down-pos e)) (one-fits f)
-    (le-trans (le-of-eq (mul-one (m * up e * down d))) (le-trans (mag-cross m e n d h) (le-of-eq (sym (one-mul (n * up d * down e)))))))
+    (le-trans (le-of-eq (mul-one (m * up e * down d))) (le-trans (nonneg-cross m e n d h) (le-of-eq (sym (one-mul (n * up d * down e)))))))
 
 -- ---- products
 mul-is : (f : Format) (m : ℕ) (e : ℤ) (n : ℕ) (d : ℤ) → mul f (fin false m e) (fin false n d) ≡ round f false (m * up e * (n * up d)) (down e * down d)
@@ -111,7 +108,7 @@ mul-mono-mag f (fin false m e) (fin false m' e') (fin false n d) (fin false n' d
     (subst (λ (z : Float). T (le (round f false (m * up e * (n * up d)) (down e * down d)) z)) (sym (mul-is f m' e' n' d'))
     (round-mono f (m * up e * (n * up d)) (down e * down d) (m' * up e' * (n' * up d')) (down e' * down d') (mul-pos (down-pos e) (down-pos d)) (mul-pos (down-pos e') (down-pos d'))
     (le-trans (le-of-eq (mul-mul-mul-comm (m * up e) (n * up d) (down e') (down d')))
-    (le-trans (mul-le-mul (mag-cross m e m' e' h) (mag-cross n d n' d' k)) (le-of-eq (mul-mul-mul-comm (m' * up e') (down e) (n' * up d') (down d)))))))
+    (le-trans (mul-le-mul (nonneg-cross m e m' e' h) (nonneg-cross n d n' d' k)) (le-of-eq (mul-mul-mul-comm (m' * up e') (down e) (n' * up d') (down d)))))))
 
 -- x times s ≤ 1 is no more than x
 pub mul-shrinks : (f : Format) (x s : Float) → T (magnitude x) → T (magnitude s) → T (fits f x) → T (le s one) → T (le (mul f x s) x)
@@ -128,7 +125,7 @@ mul-shrinks f (fin false m e) (fin false n d) p q w h =
     (mul-le-mul (le-of-eq refl) (le-trans (le-of-eq (mul-comm (n * up d) (down e))) (mul-le-mul (le-of-eq refl) (small n d h))))))
   where
     small : (n : ℕ) (d : ℤ) → T (le (fin false n d) one) → n * up d ≤ down d
-    small n d h = omega (arith, mag-cross n d 1 (pos 0) h)
+    small n d h = omega (arith, nonneg-cross n d 1 (pos 0) h)
 
 -- ---- two values that fit, each at most the other, are the same, or both are zeros
 no-part : (a b c : ℕ) → 0 < c → a * c + b ≤ 0 → a ≡ 0

@@ -10,6 +10,7 @@ use lib.Dec.{T, lt→ltb, ltb→lt}
 use lib.Ieee.{Float, nan, inf, fin, binary32, up, down, add, mul, neg, round, lt, le, eq, fits, isNan, ofBits}
 use lib.Ieee.Fits.{down-pos, add-fits}
 use lib.Ieee.Scale.{finite}
+use lib.Ieee.Bits.{is-true}
 use Rattle.floats.specs.Floats.{minOf, maxOf}
 use Rattle.floats.proofs.Cross.{cross→le}
 use Rattle.floats.proofs.Sign.{nonneg}
@@ -120,13 +121,9 @@ max-nonneg : (a b : Float) → T (nonneg a) → T (nonneg b) → T (nonneg (maxO
 unfolding maxOf
 max-nonneg a b f g = pick (λ (r : Float). T (nonneg r)) (isNan a) (lt a b) b a g f
 
-taken : (b : Bool) → T b → b ≡ true
-taken true t = refl
-taken false t = absurd t
-
 first-least : (r : Float) → Fine r → minOf top32 r ≡ r
 unfolding minOf isNan ofBits
-first-least r f = ap (λ (b : Bool). cond b r top32) (taken (lt r top32) (le-lt-trans r reach top32 (f .1) (unfold lt ofBits in tt)))
+first-least r f = ap (λ (b : Bool). cond b r top32) (is-true (lt r top32) (le-lt-trans r reach top32 (f .1) (unfold lt ofBits in tt)))
 
 first-greatest : (r : Float) → T (nonneg r) → maxOf bottom32 r ≡ r
 unfolding maxOf isNan ofBits
@@ -140,7 +137,7 @@ first-greatest r n = ap (λ (b : Bool). cond b r bottom32) (above r n)
     above (inf true) n = absurd n
     above (inf false) n = unfold lt ofBits in refl
     above (fin true m e) n = absurd n
-    above (fin false m e) n = taken (lt bottom32 (fin false m e)) (unfold lt ofBits in lt→ltb 0 _ (some (16777215 * 2 ^ 104) (down e) (m * up e * 1) (ltb→lt 0 (16777215 * 2 ^ 104) tt) (down-pos e)))
+    above (fin false m e) n = is-true (lt bottom32 (fin false m e)) (unfold lt ofBits in lt→ltb 0 _ (some (16777215 * 2 ^ 104) (down e) (m * up e * 1) (ltb→lt 0 (16777215 * 2 ^ 104) tt) (down-pos e)))
 
 module _ (xs : List Float) where
   abbrev least : ℕ → Float
