@@ -3,7 +3,7 @@
 use mathlib.Core.Path.{_≡_, refl, sym, ap, _∙_, subst}
 use mathlib.Core.Bool.{Bool, true, false, cond, _&&_}
 use Prim.Native.Nat.{ℕ, zero, suc, _*_, _%_, _^_, _<_, _≤_}
-use native.Mathlib.Nat.{mul-pos, le-trans, mul-le-mul, le-of-eq, one-mul}
+use native.Mathlib.Nat.{zero-lt-suc, mul-pos, le-trans, mul-le-mul, le-of-eq, one-mul}
 use native.Mathlib.Omega.{arith}
 use lib.Dec.{T, T-not, ltb, leb, eqb, ltb→lt, lt→ltb, leb→le}
 use lib.IntN.{ℤ, pos, negsuc}
@@ -135,11 +135,8 @@ tiny-least (fin false (suc m) e) w p = cross→le tiny (fin false (suc m) e) tt 
         (and-l (eqb (suc m % 2) 1 && ltb (suc m) (2 ^ 24) && leb (down e) (2 ^ 149)) (ltb (suc m * up e) (2 ^ 128 * down e)) w))
 
     smaller : (m u d t : ℕ) → 0 < u → d ≤ t → 1 * 1 * d ≤ suc m * u * t
-    smaller m u d t U h = le-trans (le-of-eq (one-mul-one d)) (le-trans h (le-trans (le-of-eq (sym (one-mul t))) (mul-le-mul (mul-pos (pos-suc m) U) (le-of-eq refl))))
+    smaller m u d t U h = le-trans (le-of-eq (one-mul-one d)) (le-trans h (le-trans (le-of-eq (sym (one-mul t))) (mul-le-mul (mul-pos (zero-lt-suc m) U) (le-of-eq refl))))
       where
-        pos-suc : (m : ℕ) → 0 < suc m
-        pos-suc m = omega arith
-
         one-mul-one : (d : ℕ) → 1 * 1 * d ≡ d
         one-mul-one d = omega arith
 

@@ -17,7 +17,8 @@ use Rattle.kdtree.specs.Tree.{Tree, gone, bad, node}
 use Rattle.kdtree.specs.Unpruned.{Pick, Item, meet, walk, order}
 use Rattle.kdtree.proofs.Nodes.{All}
 use Rattle.lists.specs.Each.{Each}
-use Rattle.walks.proofs.Lists.{each-append, each-left, each-right}
+use Rattle.lists.proofs.Laws.{each-append}
+use Rattle.walks.proofs.Lists.{each-left, each-right}
 
 -- true is not false
 pub tf : {A : Type 0} (b : Bool) → b ≡ true → b ≡ false → A

@@ -6,10 +6,6 @@ use Rattle.lists.specs.Each.{Each, In}
 use Rattle.walks.specs.Demand3.{Put, here, there, Reordered, none, more}
 
 module _ {A : Type 0} (P : A → Type 0) where
-  pub each-append : (k l : List A) → Each P k → Each P l → Each P (k ++ l)
-  each-append [] l a b = b
-  each-append (x ∷ k) l a b = (a .0, each-append k l (a .1) b)
-
   pub each-left : (k l : List A) → Each P (k ++ l) → Each P k
   each-left [] l a = tt
   each-left (x ∷ k) l a = (a .0, each-left k l (a .1))
