@@ -33,9 +33,6 @@ finite-is (inf true) = refl
 finite-is (fin s m e) = refl
 
 -- ---- the magnitude, by the tests `x < 0.0` and `x == 0.0`
-below-none : (a : ℕ) → T (ltb 0 (a + 0 * 1)) → 0 < a
-below-none a t = omega (arith, ltb→lt)
-
 pub abs-below : (x : Float) → lt x zero32 ≡ true → neg x ≡ absOf x
 unfolding lt neg absOf
 abs-below nan h = absurd (of-taken h)
