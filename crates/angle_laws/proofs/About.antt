@@ -226,9 +226,6 @@ prod-high A B N D e A' B' N' D' f K kp a a' ef h h' =
     (le-trans (le-of-eq f1) (le-trans (mul-le-mul h h') (le-trans (le-of-eq f2) (le-trans (sums (mul-le-mul-left (f * D * B' * D') a) (mul-le-mul-left (e * D * B * D') a') (mul-le-mul-right (B * B' * (D * D')) ef)) (le-of-eq f3)))))
     kp
   where
-    Z : ℕ
-    Z = B * B' * (D * D')
-
     f1 : N * N' * (B * B') * K * K ≡ N * B * K * (N' * B' * K)
     f1 = omega arith
 

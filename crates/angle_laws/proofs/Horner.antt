@@ -73,9 +73,6 @@ q5 P D R Q E h = go (mul-le-mul-right (P * E * Q) h)
     go : R * (P * E * Q) ≤ D * (P * E * Q) → P * R * E * Q ≤ P * (E * (D * Q))
     go f = omega arith
 
-q6 : (P A B : ℕ) → P * (A + B) ≡ P * A + P * B
-q6 P A B = omega arith
-
 glue-over : (a b c d e f g h : ℕ) → a ≤ b → b ≤ c + d → c ≤ e + f → d ≤ g → f ≤ h → a ≤ e + (h + g)
 glue-over a b c d e f g h x y z u v = omega arith
 

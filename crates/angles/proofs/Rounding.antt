@@ -12,7 +12,6 @@ use lib.Ieee.Scale.{grid, round-val}
 use mathlib.Core.Bool.{false}
 use lib.Dec.{lit≤}
 use lib.Ieee.Exact.{HasValue}
-use mathlib.Core.Path.{_≡_}
 
 -- g within w of n
 pub record Off (g n w : ℕ) : Type 0 where
@@ -91,16 +90,3 @@ rounded a c t cp h tl =
 
     sum : (a b c d : ℕ) → a ≤ c → b ≤ c → c + c ≤ d → a + b ≤ d
     sum a b c d x y z = omega arith
-
--- the grouping of factors, whatever they are
-pub group : (g K d : ℕ) → g * (d * K) ≡ g * K * d
-group g K d = omega arith
-
-pub off-trans : (x y z u w : ℕ) → Off x y u → Off y z w → Off x z (u + w)
-off-trans x y z u w a b = record { low' = lo (a .low') (b .low'); high' = hi (a .high') (b .high') }
-  where
-    lo : x ≤ y + u → y ≤ z + w → x ≤ z + (u + w)
-    lo p q = omega arith
-
-    hi : y ≤ x + u → z ≤ y + w → z ≤ x + (u + w)
-    hi p q = omega arith

@@ -319,9 +319,6 @@ module _ (delays : List Float) (m r e : ℕ) (s : Stride) (q : s ≡ strideOf (l
 pub three-in : (k m len : ℕ) → k < m → 3 * m ≤ len → 3 * k + 2 < len
 three-in k m len h g = omega arith
 
-pub six-in : (k m len : ℕ) → k < m → 6 * m ≤ len → 6 * k + 6 ≤ len
-six-in k m len h g = omega arith
-
 pub times : (m r : ℕ) → m ≤ 16384 → r ≤ 8 → m * r ≤ 131072
 times m r hm hr = mul-le-mul {n₂ = 16384} {m₂ = 8} hm hr
 

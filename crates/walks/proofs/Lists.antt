@@ -107,10 +107,6 @@ module _ {A B : Type 0} (f : A → B) where
   put-map here = here
   put-map (there p) = there (put-map p)
 
-  pub each-map : (P : B → Type 0) (l : List A) → Each (λ (a : A). P (f a)) l → Each P (map f l)
-  each-map P [] e = tt
-  each-map P (x ∷ l) e = (e .0, each-map P l (e .1))
-
   pub map-append : (k l : List A) → map f (k ++ l) ≡ map f k ++ map f l
   map-append [] l = refl
   map-append (x ∷ k) l = ap (λ (m : List B). f x ∷ m) (map-append k l)
