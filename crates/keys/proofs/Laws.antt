@@ -12,7 +12,6 @@ use Rattle.text.specs.declared.Num.{Num}
 use Rattle.text.specs.declared.Num.the-variants.{Bad}
 use Rattle.text.specs.Number.{begins}
 use Rattle.text.specs.Values.{valuesOk, valueAt}
-use Rattle.keys.specs.declared.Place.{Place}
 use Rattle.keys.specs.declared.Place.the-variants.{At}
 use Rattle.keys.specs.Keys.{behind, valuesFit, pointOf, pointIn}
 
