@@ -11,7 +11,7 @@ use lib.Ieee.{Float, nan, inf, fin, binary32, up, down, add, mul, neg, round, lt
 use lib.Ieee.Fits.{down-pos, add-fits}
 use lib.Ieee.Scale.{finite}
 use lib.Ieee.Bits.{is-true}
-use Rattle.floats.specs.Floats.{minOf, maxOf}
+use Rattle.floats.specs.Floats.{absOf, minOf, maxOf}
 use Rattle.floats.proofs.Cross.{cross→le}
 use Rattle.floats.proofs.Sign.{nonneg}
 use Rattle.floats.proofs.Ops.{finite-number, sq-nonneg, sq-mono, add-nonneg, add-mono, neg-le}
@@ -25,7 +25,7 @@ use Rattle.limits.specs.Allowed.{nearest, within}
 use Rattle.limits.proofs.Ends.{between-low, between-high}
 use Rattle.lookup.specs.Build.{leastOf, greatestOf, top32, bottom32, lookupOf}
 use Rattle.lookup_laws.specs.Clamp.{Measured, Radii, reach}
-use Rattle.lookup_laws.proofs.Clamp.{bounded, size, size-square, sum, sum-nonneg}
+use Rattle.lookup_laws.proofs.Clamp.{bounded, size-square, sum, sum-nonneg}
 
 -- ---- one measurement
 
@@ -33,10 +33,11 @@ use Rattle.lookup_laws.proofs.Clamp.{bounded, size, size-square, sum, s
 abbrev far : Float
 far = nearest 10001 1
 
-within-size : (c : Float) → within 10001 1 c ≡ true → T (finite c) × T (le (size c) far)
+within-size : (c : Float) → within 10001 1 c ≡ true → T (finite c) × T (le (absOf c) far)
+unfolding absOf
 within-size c e = go c (unfold within in between-low (neg far) far c e) (unfold within in between-high (neg far) far c e)
   where
-    go : (c : Float) → T (le (neg far) c) → T (le c far) → T (finite c) × T (le (size c) far)
+    go : (c : Float) → T (le (neg far) c) → T (le c far) → T (finite c) × T (le (absOf c) far)
     go nan a b = absurd (unfold le lt eq round in b)
     go (inf false) a b = absurd (unfold le lt eq round in b)
     go (inf true) a b = absurd (unfold le lt eq round neg in a)
@@ -47,11 +48,12 @@ abbrev square : Float
 square = mul binary32 far far
 
 square-most : (c : Float) → within 10001 1 c ≡ true → T (le (mul binary32 c c) square)
+unfolding absOf
 square-most c e =
     let z = within-size c e in
-    subst (λ (w : Float). T (le w square)) (size-square c (z .0)) (sq-mono binary32 (size c) far (size-nonneg c (z .0)) (unfold round in tt) (z .1))
+    subst (λ (w : Float). T (le w square)) (size-square c (z .0)) (sq-mono binary32 (absOf c) far (size-nonneg c (z .0)) (unfold round in tt) (z .1))
   where
-    size-nonneg : (c : Float) → T (finite c) → T (nonneg (size c))
+    size-nonneg : (c : Float) → T (finite c) → T (nonneg (absOf c))
     size-nonneg nan f = absurd f
     size-nonneg (inf s) f = absurd f
     size-nonneg (fin s m e) f = tt
