@@ -2,7 +2,7 @@
 use mathlib.Core.Path.{_≡_, refl, sym, ap, ap₂, _∙_, subst}
 use mathlib.Core.Bool.{Bool, true, false, cond, true≢false}
 use Prim.Native.Nat.{ℕ, _+_, _-_, _*_, _^_, _≤_, _<_}
-use native.Mathlib.Nat.{add-le-add, sub-le, le-refl, le-trans, le-of-eq, lt-of-le-of-lt, mul-pos, mul-le-mul, mul-le-mul-left, mul-le-mul-right, le-of-mul-le-mul-right, mul-lt-mul-of-pos-right}
+use native.Mathlib.Nat.{sub-add-cancel, add-le-add, sub-le, le-refl, le-trans, le-of-eq, lt-of-le-of-lt, mul-pos, mul-le-mul, mul-le-mul-left, mul-le-mul-right, le-of-mul-le-mul-right, mul-lt-mul-of-pos-right}
 use native.Mathlib.Omega.{arith}
 use lib.Dec.{lit<, lit≤}
 use lib.Pow.{pow-pos}
@@ -12,7 +12,7 @@ use lib.Ieee.Fits.{down-pos}
 use lib.Ieee.Exact.{HasValue}
 use lib.Ieee.Scale.{grid, round-val}
 use Rattle.angles.proofs.Rounding.{Off, grid-off}
-use Rattle.angles.proofs.Sides.{test-false}
+use borrow.Author.Tests.{le-ltb}
 
 -- 2^32
 abbrev pub K : ℕ
@@ -226,9 +226,6 @@ prod-high A B N D e A' B' N' D' f K kp a a' ef h h' =
     (le-trans (le-of-eq f1) (le-trans (mul-le-mul h h') (le-trans (le-of-eq f2) (le-trans (sums (mul-le-mul-left (f * D * B' * D') a) (mul-le-mul-left (e * D * B * D') a') (mul-le-mul-right (B * B' * (D * D')) ef)) (le-of-eq f3)))))
     kp
   where
-    Z : ℕ
-    Z = B * B' * (D * D')
-
     f1 : N * N' * (B * B') * K * K ≡ N * B * K * (N' * B' * K)
     f1 = omega arith
 
@@ -331,16 +328,13 @@ about-add {x} {y} N D N' D' e f dp dp' n n' el fl a b =
 -- x - y, where y ≤ x
 pub sub-fin : (m : ℕ) (e : ℤ) (n : ℕ) (d : ℤ) → n * up d * down e ≤ m * up e * down d → sub binary64 (fin false m e) (fin false n d) ≡ round binary64 false (m * up e * down d - n * up d * down e) (down e * down d)
 unfolding sub add neg sum
-sub-fin m e n d h = ap (λ (b : Bool). cond b (round binary64 true (n * up d * down e - m * up e * down d) (down e * down d)) (round binary64 false (m * up e * down d - n * up d * down e) (down e * down d))) (test-false (m * up e * down d) (n * up d * down e) h)
+sub-fin m e n d h = ap (λ (b : Bool). cond b (round binary64 true (n * up d * down e - m * up e * down d) (down e * down d)) (round binary64 false (m * up e * down d - n * up d * down e) (down e * down d))) (le-ltb (m * up e * down d) (n * up d * down e) h)
 
 -- G + N' D = N D'
 diff-low : (A B N D e A' B' N' D' f G K : ℕ) → A' * B ≤ A * B' → G + N' * D ≡ N * D' → A * D * K ≤ N * B * K + e * (B * D) → N' * B' * K ≤ A' * D' * K + f * (B' * D')
     → (A * B' - A' * B) * (D * D') * K ≤ G * (B * B') * K + (e + f) * (B * B' * (D * D'))
-diff-low A B N D e A' B' N' D' f G K o q h h' = go (A * B' - A' * B) (back (A * B') (A' * B) o)
+diff-low A B N D e A' B' N' D' f G K o q h h' = go (A * B' - A' * B) (sub-add-cancel o)
   where
-    back : (u v : ℕ) → v ≤ u → u - v + v ≡ u
-    back u v h = omega arith
-
     f1 : (d : ℕ) → (d + A' * B) * (D * D') * K ≡ d * (D * D') * K + A' * B * (D * D') * K
     f1 d = omega arith
 
@@ -362,11 +356,8 @@ diff-low A B N D e A' B' N' D' f G K o q h h' = go (A * B' - A' * B) (back (A * 
 
 diff-high : (A B N D e A' B' N' D' f G K : ℕ) → A' * B ≤ A * B' → G + N' * D ≡ N * D' → N * B * K ≤ A * D * K + e * (B * D) → A' * D' * K ≤ N' * B' * K + f * (B' * D')
     → G * (B * B') * K ≤ (A * B' - A' * B) * (D * D') * K + (e + f) * (B * B' * (D * D'))
-diff-high A B N D e A' B' N' D' f G K o q h h' = go (A * B' - A' * B) (back (A * B') (A' * B) o)
+diff-high A B N D e A' B' N' D' f G K o q h h' = go (A * B' - A' * B) (sub-add-cancel o)
   where
-    back : (u v : ℕ) → v ≤ u → u - v + v ≡ u
-    back u v h = omega arith
-
     f0 : G * (B * B') * K + N' * B' * K * (B * D) ≡ (G + N' * D) * (B * B' * K)
     f0 = omega arith
 

@@ -148,9 +148,6 @@ pick : (y x r a : Float) (b : Bool) → (T b → IsArc y x r) → IsArc y x a �
 pick y x r a true f g = f tt
 pick y x r a false f g = g
 
-id-line : {A : Type 0} → A → A
-id-line a = a
-
 module _ (sy : Bool) (my : ℕ) (ey : ℤ) (sx : Bool) (mx : ℕ) (ex : ℤ) (yp : 0 < my) (xp : 0 < mx) (old : IsArc (fin sy my ey) (fin sx mx ex) (arcSteps (fin sy my ey) (fin sx mx ex))) where
   w-pos : 0 < mx * up ex * down ey
   w-pos = mul-pos (mul-pos xp (up-pos ex)) (down-pos ey)

@@ -1,5 +1,5 @@
 -- A float from -16 to 16, by its sign, digits and exponent: not below 2^-12 in size, or below. Assumes nothing.
-use mathlib.Core.Path.{_≡_, refl, sym, ap, subst}
+use mathlib.Core.Path.{_≡_, refl, ap, subst}
 use mathlib.Core.Bool.{Bool, true, false, cond}
 use Prim.Native.Nat.{ℕ, zero, suc, _+_, _*_, _≤_, _<_}
 use native.Mathlib.Omega.{arith}
@@ -9,7 +9,8 @@ use lib.IntN.{ℤ}
 use lib.Ieee.{Float, nan, inf, fin, binary32, up, down, lt, fits}
 use lib.Ieee.Fits.{down-pos}
 use Rattle.sines.specs.Sines.{small, plusZero, inRange, absf}
-use Rattle.sines.proofs.Range.{not-lt, range-hi, no-nan, no-inf}
+use borrow.Author.Tests.{ltb-true, ltb-false}
+use Rattle.sines.proofs.Range.{range-hi, no-nan, no-inf}
 
 fits-sign : (s : Bool) (m : ℕ) (e : ℤ) → T (fits binary32 (fin s m e)) → T (fits binary32 (fin false m e))
 unfolding fits
@@ -28,9 +29,6 @@ pub record Large (x : Float) : Type 0 where
   pub hi : m * up e ≤ 16 * down e
   pub fit : T (fits binary32 (fin false m e))
 
-is-lt : (a b : ℕ) → ltb a b ≡ true → a < b
-is-lt a b h = ltb→lt a b (subst T (sym h) tt)
-
 lo-of : (n d : ℕ) → 1 * d ≤ n * 4096 → d ≤ 4096 * n
 lo-of n d h = omega arith
 
@@ -38,13 +36,13 @@ hi-of : (n d : ℕ) → n * 4096 < 1 * d → 4096 * n < d
 hi-of n d h = omega arith
 
 never : (n d : ℕ) → 0 < d → ltb 0 (n * 4096 + 1 * d) ≡ false → ⊥
-never n d dp h = no (not-lt 0 (n * 4096 + 1 * d) h)
+never n d dp h = no (ltb-false 0 (n * 4096 + 1 * d) h)
   where
     no : n * 4096 + 1 * d ≤ 0 → ⊥
     no k = omega arith
 
 zero-of : (n d : ℕ) → ltb 0 (n * 1 + 0 * d) ≡ false → 0 < d → 4096 * n < d
-zero-of n d h dp = go (not-lt 0 (n * 1 + 0 * d) h)
+zero-of n d h dp = go (ltb-false 0 (n * 1 + 0 * d) h)
   where
     go : n * 1 + 0 * d ≤ 0 → 4096 * n < d
     go k = omega arith
@@ -69,7 +67,7 @@ large (fin true m e) f r h = go (ltb 0 (m * up e * 1 + 0 * down e)) refl h
       is = refl;
       abs = ap (λ (b : Bool). cond b (fin false m e) (fin true m e)) q;
       sgn = q;
-      lo = lo-of (m * up e) (down e) (not-lt (m * up e * 4096) (1 * down e) h);
+      lo = lo-of (m * up e) (down e) (ltb-false (m * up e * 4096) (1 * down e) h);
       hi = range-hi true m e r;
       fit = fits-sign true m e f;
     }
@@ -83,7 +81,7 @@ large (fin false m e) f r h =
       is = refl;
       abs = ap (λ (b : Bool). cond b (fin true m e) (fin false m e)) q;
       sgn = q;
-      lo = lo-of (m * up e) (down e) (not-lt (m * up e * 4096) (1 * down e) (subst (λ (b : Bool). lt (cond b (fin true m e) (fin false m e)) small ≡ false) q h));
+      lo = lo-of (m * up e) (down e) (ltb-false (m * up e * 4096) (1 * down e) (subst (λ (b : Bool). lt (cond b (fin true m e) (fin false m e)) small ≡ false) q h));
       hi = range-hi false m e r;
       fit = f;
     }
@@ -103,8 +101,8 @@ little (inf s) r h = absurd (no-inf s r)
 little (fin true m e) r h = go (ltb 0 (m * up e * 1 + 0 * down e)) refl h
   where
     go : (b : Bool) → ltb 0 (m * up e * 1 + 0 * down e) ≡ b → lt (cond b (fin false m e) (fin true m e)) small ≡ true → Little (fin true m e)
-    go true q h = record { s = true; m = m; e = e; is = refl; lo = hi-of (m * up e) (down e) (is-lt (m * up e * 4096) (1 * down e) h) }
+    go true q h = record { s = true; m = m; e = e; is = refl; lo = hi-of (m * up e) (down e) (ltb-true (m * up e * 4096) (1 * down e) h) }
     go false q h = record { s = true; m = m; e = e; is = refl; lo = zero-of (m * up e) (down e) q (down-pos e) }
 little (fin false m e) r h =
     let q : ltb (m * up e * 1) (0 * down e) ≡ false = not-below (m * up e) (down e) in
-    record { s = false; m = m; e = e; is = refl; lo = hi-of (m * up e) (down e) (is-lt (m * up e * 4096) (1 * down e) (subst (λ (b : Bool). lt (cond b (fin true m e) (fin false m e)) small ≡ true) q h)) }
+    record { s = false; m = m; e = e; is = refl; lo = hi-of (m * up e) (down e) (ltb-true (m * up e * 4096) (1 * down e) (subst (λ (b : Bool). lt (cond b (fin true m e) (fin false m e)) small ≡ true) q h)) }

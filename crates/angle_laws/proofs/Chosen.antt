@@ -22,10 +22,10 @@ use Rattle.angle_laws.proofs.Rest.{Rested, rested}
 use Rattle.angle_laws.proofs.Reduce.{Reduced}
 use Rattle.angle_laws.proofs.Placed.{placed}
 
-sin-le : (R D : ℕ) → R ≤ D → sinTop R D ≤ sinBot D
+pub sin-le : (R D : ℕ) → R ≤ D → sinTop R D ≤ sinBot D
 sin-le R D h = le-trans (le-of-eq (sin-nested R D h)) (le-trans (mul-le-mul h (top-le (R * R) (D * D) _ tt (mul-le-mul h h))) (le-of-eq (sym (sin-bot D))))
 
-cos-le : (R D : ℕ) → R ≤ D → cosTop R D ≤ cosBot D
+pub cos-le : (R D : ℕ) → R ≤ D → cosTop R D ≤ cosBot D
 cos-le R D h = le-trans (le-of-eq (cos-nested R D h)) (le-trans (top-le (R * R) (D * D) _ tt (mul-le-mul h h)) (le-of-eq (sym (cos-bot D))))
 
 abbrev turned : Bool → ℕ → ℕ

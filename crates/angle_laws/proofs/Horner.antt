@@ -2,7 +2,7 @@
 -- Each nonlinear fact is one product of an order with a factor, brought into a fixed order of factors by `omega` in a lemma of its own
 -- (omega multiplies out, but stops at a bound of its own where many products are in reach); the glue is then linear over named numbers. Assumes nothing.
 use Prim.Native.Nat.{ℕ, _*_, _/_, _≤_, _+_, _<_, _-_}
-use native.Mathlib.Nat.{le-trans, mul-le-mul-right, div-mul-le-self, lt-div-mul-add, mul-le-mul-left, le-of-mul-le-mul-left, le-of-eq, one-mul, sub-le, div-le-of-le-mul, mul-le-mul, div-le-self, le-refl}
+use native.Mathlib.Nat.{sub-add-cancel, le-trans, mul-le-mul-right, div-mul-le-self, lt-div-mul-add, mul-le-mul-left, le-of-mul-le-mul-left, le-of-eq, one-mul, sub-le, div-le-of-le-mul, mul-le-mul, div-le-self, le-refl}
 use native.Mathlib.Omega.{arith}
 use mathlib.Core.Path.{_≡_, subst, sym, ap}
 use mathlib.Core.List.{List, _∷_, []}
@@ -73,9 +73,6 @@ q5 P D R Q E h = go (mul-le-mul-right (P * E * Q) h)
     go : R * (P * E * Q) ≤ D * (P * E * Q) → P * R * E * Q ≤ P * (E * (D * Q))
     go f = omega arith
 
-q6 : (P A B : ℕ) → P * (A + B) ≡ P * A + P * B
-q6 P A B = omega arith
-
 glue-over : (a b c d e f g h : ℕ) → a ≤ b → b ≤ c + d → c ≤ e + f → d ≤ g → f ≤ h → a ≤ e + (h + g)
 glue-over a b c d e f g h x y z u v = omega arith
 
@@ -145,9 +142,6 @@ pub record Square (P T D R e : ℕ) : Type 0 where
   pub low : T * D ≤ P * R + e * D
   pub high : P * R ≤ T * D + e * D
 
-back : (a b : ℕ) → b ≤ a → a - b + b ≡ a
-back a b h = omega arith
-
 sum-le : (a b c d : ℕ) → a ≤ b + c → c ≤ d → a ≤ b + d
 sum-le a b c d x y = omega arith
 
@@ -163,9 +157,9 @@ step P c T D R e E H Q N two ef s k =
     record {
       below-one = sub-le P G;
       proper = sub-le (c * (D * Q)) (R * N);
-      low = fin-low P (P - G) G (c * W) (c * W - R * N) (R * N) E (back P G gp) (back (c * W) (R * N) nq)
+      low = fin-low P (P - G) G (c * W) (c * W - R * N) (R * N) E (sub-add-cancel gp) (sub-add-cancel nq)
           (sum-le _ _ _ _ (under P c T H D R Q N e E G (s .one) (k .below-one) (s .proper) (s .high) (k .high) (div-high (T * H) P c (s .one) cp)) rm);
-      high = fin-high P (P - G) G (c * W) (c * W - R * N) (R * N) E (back P G gp) (back (c * W) (R * N) nq)
+      high = fin-high P (P - G) G (c * W) (c * W - R * N) (R * N) E (sub-add-cancel gp) (sub-add-cancel nq)
           (sum-le _ _ _ _ (over P c T H D R Q N e E G (s .one) (k .below-one) (s .proper) (s .low) (k .low) (div-low (T * H) P c)) (omega (arith, rm)));
     }
 

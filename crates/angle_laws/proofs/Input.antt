@@ -6,7 +6,7 @@ use lib.Ieee.{up, down, fin, binary32, fits}
 use native.Mathlib.Omega.{arith}
 use lib.Pow.{pow-add, pow-lt}
 use mathlib.Core.Bool.{Bool, true, false, not, _&&_}
-use native.Mathlib.Nat.{lt-of-lt-of-le, lt-irrefl, le-trans, mul-one, one-mul, le-of-eq, zero-mul, zero-lt-suc, mul-le-mul-left}
+use native.Mathlib.Nat.{sub-add-cancel, lt-of-lt-of-le, lt-irrefl, le-trans, mul-one, one-mul, le-of-eq, zero-mul, zero-lt-suc, mul-le-mul-left}
 use lib.Dec.{T, ltb, ltb→lt, nltb→le, lit≤, leb, eqb}
 use lib.Ieee.Fits.{and-l, and-r}
 
@@ -19,10 +19,7 @@ pub record Whole (e : ℤ) : Type 0 where
   pub fine : up e * 2 ^ 189 ≡ 2 ^ j * down e
 
 split : (a k : ℕ) → k ≤ a → 2 ^ (a - k) * 2 ^ k ≡ 2 ^ a
-split a k h = sym (pow-add 2 (a - k) k) ∙ ap (λ (z : ℕ). 2 ^ z) (back a k h)
-  where
-    back : (a k : ℕ) → k ≤ a → a - k + k ≡ a
-    back a k h = omega arith
+split a k h = sym (pow-add 2 (a - k) k) ∙ ap (λ (z : ℕ). 2 ^ z) (sub-add-cancel h)
 
 exp-le : (k : ℕ) → 2 ^ k ≤ 2 ^ 40 → k ≤ 40
 exp-le k h = go (ltb 40 k) refl

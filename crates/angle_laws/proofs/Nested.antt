@@ -1,7 +1,7 @@
 -- The series of document 01 is the nested form: sinTop = R * top, sinBot = D * bot, cosTop = top, cosBot = bot, over squares. Assumes nothing.
 use Prim.Native.Nat.{ℕ, zero, suc, _*_, _^_, _≤_, _+_, _-_, _/_}
 use mathlib.Core.Path.{_≡_, ap, _∙_, sym}
-use native.Mathlib.Nat.{pow-zero, pow-suc, le-refl, sub-le, le-trans, le-of-eq, one-mul, mul-le-mul-right, mul-le-mul}
+use native.Mathlib.Nat.{sub-add-cancel, pow-zero, pow-suc, le-refl, sub-le, le-trans, le-of-eq, one-mul, mul-le-mul-right, mul-le-mul}
 use mathlib.Core.List.{List, _∷_, []}
 use lib.Dec.{T, leb, leb→le}
 use native.Mathlib.Omega.{arith}
@@ -31,13 +31,10 @@ top-le u v (c ∷ cs) t h = sub-le (c * (v * bot v cs)) (u * top u v cs)
 up-le : (c W : ℕ) → 2 ≤ c → W ≤ c * W
 up-le c W h = le-trans (le-of-eq (sym (one-mul W))) (mul-le-mul-right W (omega arith))
 
-back : (a b : ℕ) → b ≤ a → a - b + b ≡ a
-back a b h = omega arith
-
 pub top-sum : (u v c : ℕ) (cs : List ℕ) → T (twos (c ∷ cs)) → u ≤ v → top u v (c ∷ cs) + u * top u v cs ≡ c * (v * bot v cs)
 unfolding top bot
 top-sum u v c cs t h =
-    back (c * (v * bot v cs)) (u * top u v cs)
+    sub-add-cancel
     (le-trans (mul-le-mul h (top-le u v cs (and-r (leb 2 c) (twos cs) t) h)) (up-le c (v * bot v cs) (leb→le 2 c (and-l (leb 2 c) (twos cs) t))))
 
 -- times a factor x, with y = x * u: what the next level has

@@ -3,7 +3,7 @@ use Prim.Native.Nat.{ℕ, zero, suc, _+_, _-_, _*_, _/_, min, _≤_, _^_, _<_}
 use mathlib.Core.Path.{_≡_, sym, ap, _∙_, subst, refl}
 use native.Mathlib.Omega.{arith}
 use mathlib.Core.Bool.{Bool, false, true, true≢false}
-use native.Mathlib.Nat.{le-of-lt, lt-of-le-of-lt, mul-assoc, mul-le-mul, mul-pos, mul-le-mul-right, mul-one, mul-comm}
+use native.Mathlib.Nat.{sub-add-cancel, le-of-lt, lt-of-le-of-lt, mul-assoc, mul-le-mul, mul-pos, mul-le-mul-right, mul-one, mul-comm}
 use lib.Dec.{lit<, lit≤}
 use lib.Pow.{pow-pos, pow-add, pow-mono}
 use lib.IntN.{negsuc, pos, ℤ}
@@ -21,9 +21,6 @@ place (suc zero) j = 2 * (13176794 - (min j 13176792 + 1) / 2)
 place (suc (suc zero)) j = 4 * (6588398 + min j 13176788 / 4)
 place (suc (suc (suc o))) j = 4 * (13176794 - (min j 13176788 + 3) / 4)
 
-back : (a k : ℕ) → k ≤ a → a - k + k ≡ a
-back a k h = omega arith
-
 scaled : (y : Float) (w g : ℕ) → HasValue y false w 1 → w < 2 ^ 24 → suc g ≤ 149 → HasValue (mul binary32 y (fin false 1 (negsuc g))) false w (2 ^ suc g)
 unfolding mul
 scaled nan w g h l k = absurd h
@@ -36,7 +33,7 @@ scaled (fin s m e) w g h l k =
     subst (λ (z : Float). HasValue z false w (2 ^ suc g)) (sym same)
     (round-exact binary32 false w (2 ^ suc g) w (149 - suc g) (pow-pos (suc g)) l
     (lt-of-le-of-lt (mul-le-mul (le-of-lt l) (pow-mono {i = 149 - suc g} {j = 149} (g2 (suc g)))) (lit< tt))
-    (ap (λ (z : ℕ). w * z) (ap (λ (z : ℕ). 2 ^ z) (sym (back 149 (suc g) k)) ∙ pow-add 2 (149 - suc g) (suc g)) ∙ sym (mul-assoc w (2 ^ (149 - suc g)) (2 ^ suc g))))
+    (ap (λ (z : ℕ). w * z) (ap (λ (z : ℕ). 2 ^ z) (sym (sub-add-cancel k)) ∙ pow-add 2 (149 - suc g) (suc g)) ∙ sym (mul-assoc w (2 ^ (149 - suc g)) (2 ^ suc g))))
   where
     g1 : (x K w d : ℕ) → x * 1 ≡ w * d → x * 1 * K ≡ w * (d * K)
     g1 x K w d e = ap (λ (z : ℕ). z * K) e ∙ mul-assoc w d K

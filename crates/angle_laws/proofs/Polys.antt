@@ -2,14 +2,14 @@
 use mathlib.Core.Path.{_≡_, refl, sym, ap, _∙_, subst}
 use mathlib.Core.Bool.{false}
 use Prim.Native.Nat.{ℕ, _+_, _-_, _*_, _≤_, _<_}
-use native.Mathlib.Nat.{add-le-add, add-right-cancel, le-refl, le-trans, le-of-eq, sub-le, mul-one, one-mul, mul-pos, mul-le-mul, mul-le-mul-left, mul-le-mul-right, le-of-mul-le-mul-right}
+use native.Mathlib.Nat.{sub-add-cancel, add-le-add, add-right-cancel, le-refl, le-trans, le-of-eq, sub-le, mul-one, one-mul, mul-pos, mul-le-mul, mul-le-mul-left, mul-le-mul-right, le-of-mul-le-mul-right}
 use native.Mathlib.Omega.{arith}
 use lib.Dec.{T, lit<, lit≤}
 use lib.IntN.{ℤ, pos, negsuc}
 use lib.Ieee.{Float, fin, binary64, up, down, fits, mul, le, ofBits}
 use lib.Ieee.Fits.{mul-fits}
 use Rattle.floats.proofs.Ratio.{mul-shrinks}
-use Rattle.floats.proofs.Cross.{cross→le, le→cross}
+use Rattle.floats.proofs.Cross.{cross→le, nonneg-cross}
 use Rattle.floats.proofs.Preorder.{le-trans-f}
 use Rattle.sines.specs.Sines.{one, num, plus, less, times, sinPoly, cosPoly}
 use Rattle.angle_laws.specs.Series.{fact, sinTop, sinBot, cosTop, cosBot}
@@ -64,15 +64,6 @@ shrink m e n d f h = mul-shrinks binary64 (fin false m e) (fin false n d) tt tt 
   where
     go : (x y : ℕ) → x ≤ y → x * 1 + 0 * y ≤ 1 * y + 0 * 1
     go x y h = omega arith
-
-back : (a b : ℕ) → b ≤ a → a - b + b ≡ a
-back a b h = omega arith
-
-cross-of : (m : ℕ) (e : ℤ) (n : ℕ) (d : ℤ) → T (le (fin false m e) (fin false n d)) → m * up e * down d ≤ n * up d * down e
-cross-of m e n d h = go (m * up e * down d) (n * up d * down e) (down e) (down d) (le→cross (fin false m e) (fin false n d) tt tt h)
-  where
-    go : (x y u v : ℕ) → x + 0 * u ≤ y + 0 * v → x ≤ y
-    go x y u v h = omega arith
 
 -- ---- the sine
 -- the parts' numerators g₁ and g₂, as numbers
@@ -161,13 +152,13 @@ module _ (w : Float) (R D : ℕ) (dp : 0 < D) (un : R * 1000 ≤ 786 * D) (a : A
       (shrink (c .m) (c .x') (s₁ .m) (s₁ .x') (subst (λ (v : Float). T (fits binary64 v)) (c .is) (mul-fits binary64 w (times w w))) (one-of 715827379 4294967296 1 s₁ (lit< tt) (lit≤ tt))))
 
   ck-le : ck .m * up (ck .x') * down (a .x') ≤ a .m * up (a .x') * down (ck .x')
-  ck-le = cross-of (ck .m) (ck .x') (a .m) (a .x') (subst (λ (v : Float). T (le v (fin false (a .m) (a .x')))) (ck .is) (subst (λ (v : Float). T (le (times (times w (times w w)) (num 4595172815570052611)) v)) (a .is) (le-trans-f _ _ _ le-ck le-c)))
+  ck-le = nonneg-cross (ck .m) (ck .x') (a .m) (a .x') (subst (λ (v : Float). T (le v (fin false (a .m) (a .x')))) (ck .is) (subst (λ (v : Float). T (le (times (times w (times w w)) (num 4595172815570052611)) v)) (a .is) (le-trans-f _ _ _ le-ck le-c)))
 
   g₁ : ℕ
   g₁ = R * (D * D) * 4294967296 - R * (R * R) * 715827379
 
   g₁-is : g₁ + R * (R * R) * 715827379 ≡ R * (D * D) * 4294967296
-  g₁-is = unfold g₁ in back (R * (D * D) * 4294967296) (R * (R * R) * 715827379) (mul-le-mul (mul-le-mul (le-refl R) sq) (lit≤ tt))
+  g₁-is = unfold g₁ in sub-add-cancel (mul-le-mul (mul-le-mul (le-refl R) sq) (lit≤ tt))
 
   first : About (less w (times (times w (times w w)) (num 4595172815570052611))) g₁ (D * (D * D) * 4294967296) 26
   first = about-same (g₁ * D) (D * (D * (D * D) * 4294967296)) g₁ (D * (D * D) * 4294967296) 26 (mul-pos dp (mul-pos cp (lit< tt))) (o1 g₁ D)
@@ -192,7 +183,7 @@ module _ (w : Float) (R D : ℕ) (dp : 0 < D) (un : R * 1000 ≤ 786 * D) (a : A
   g₂ = 35786433 * (D * D) - R * R * 838262
 
   g₂-is : g₂ + R * R * 838262 ≡ 35786433 * (D * D)
-  g₂-is = unfold g₂ in back (35786433 * (D * D)) (R * R * 838262) (le-trans (mul-le-mul sq (lit≤ tt)) (le-of-eq (native.Mathlib.Nat.mul-comm (D * D) 35786433)))
+  g₂-is = unfold g₂ in sub-add-cancel (le-trans (mul-le-mul sq (lit≤ tt)) (le-of-eq (native.Mathlib.Nat.mul-comm (D * D) 35786433)))
 
   second : About (less (num 4575956795463502788) (times (times w w) (num 4551332636403224356))) g₂ (D * D * 4294967296) 17
   second = about-same (g₂ * 4294967296) (4294967296 * (D * D * 4294967296)) g₂ (D * D * 4294967296) 17 (mul-pos {m = 4294967296} (lit< tt) (mul-pos pp (lit< tt))) (o1 g₂ (D * D))
@@ -313,7 +304,7 @@ module _ (w : Float) (R D : ℕ) (dp : 0 < D) (un : R * 1000 ≤ 786 * D) (a : A
   h₁ = D * D * 4294967296 - R * R * 2147483636
 
   h₁-is : h₁ + R * R * 2147483636 ≡ D * D * 4294967296
-  h₁-is = unfold h₁ in back (D * D * 4294967296) (R * R * 2147483636) (mul-le-mul sp (lit≤ tt))
+  h₁-is = unfold h₁ in sub-add-cancel (mul-le-mul sp (lit≤ tt))
 
   h₁-le : h₁ ≤ D * D * 4294967296
   h₁-le = unfold h₁ in sub-le (D * D * 4294967296) (R * R * 2147483636)
@@ -346,7 +337,7 @@ module _ (w : Float) (R D : ℕ) (dp : 0 < D) (un : R * 1000 ≤ 786 * D) (a : A
   h₃ = 5964320 * (D * D) - R * R * 104756
 
   h₃-is : h₃ + R * R * 104756 ≡ 5964320 * (D * D)
-  h₃-is = unfold h₃ in back (5964320 * (D * D)) (R * R * 104756) (le-trans (mul-le-mul sp (lit≤ tt)) (le-of-eq (native.Mathlib.Nat.mul-comm (D * D) 5964320)))
+  h₃-is = unfold h₃ in sub-add-cancel (le-trans (mul-le-mul sp (lit≤ tt)) (le-of-eq (native.Mathlib.Nat.mul-comm (D * D) 5964320)))
 
   h₃-le : h₃ ≤ 5964320 * (D * D)
   h₃-le = unfold h₃ in sub-le (5964320 * (D * D)) (R * R * 104756)
@@ -407,7 +398,7 @@ module _ (w : Float) (R D : ℕ) (dp : 0 < D) (un : R * 1000 ≤ 786 * D) (a : A
   g = (h₁ * (D * D) + R * R * (R * R) * 178956785) * (D * D * (D * D)) - R * R * (R * R) * (R * R) * h₃
 
   g-is : g + R * R * (R * R) * (R * R) * h₃ ≡ (h₁ * (D * D) + R * R * (R * R) * 178956785) * (D * D * (D * D))
-  g-is = unfold g in back _ _ (le-trans little (le-trans (o (D * D)) (mul-le-mul-right (D * D * (D * D)) most)))
+  g-is = unfold g in sub-add-cancel (le-trans little (le-trans (o (D * D)) (mul-le-mul-right (D * D * (D * D)) most)))
     where
       o : (p : ℕ) → 5964320 * (p * p * p * p) ≤ 2147483660 * (p * p) * (p * p)
       o p = omega arith

@@ -11,7 +11,7 @@ use Rattle.sines.specs.Steps.{bound, base, dist, rest, Q58}
 use Rattle.angle_laws.proofs.Below.{at}
 use Rattle.angle_laws.proofs.Parts.{Angle}
 use Rattle.sines.specs.Sines.{half, odd}
-use Rattle.angles.proofs.Sides.{test-true, test-false}
+use borrow.Author.Tests.{lt-ltb, le-ltb}
 
 -- ---- the constants: j π / 4 in units of 2^-40 lies strictly between `bound j` and one more, and in units of 2^-48 within two of `base j`
 pub bound-over : (j : ℕ) → j < 21 → bound (suc j) * (4 * piBot) < suc j * piTop * 1099511627776
@@ -218,7 +218,7 @@ module _ (neg : Bool) (n d X k : ℕ) (dp : 0 < d) (e : X * d ≡ 1099511627776 
       let re : rest q X ≡ (X * 256 - b) / 16384 = ap (λ (z : ℕ). cond (eqb z 0) (X * 256 - base (q + z)) (base (q + z) - X * 256) / 16384) r0 ∙ ap (λ (z : ℕ). (X * 256 - base z) / 16384) (plus q k qe) in
       record {
         is = nearest neg n d k dp lo' hi ∙ sym hk;
-        sign = subst (λ (z : ℕ). ltb (2 * piBot * n) (z * (piTop * d)) ≡ odd q) (sym hk) (test-false _ _ ge ∙ sym (ap (λ (z : ℕ). not (eqb z 0)) r0));
+        sign = subst (λ (z : ℕ). ltb (2 * piBot * n) (z * (piTop * d)) ≡ odd q) (sym hk) (le-ltb _ _ ge ∙ sym (ap (λ (z : ℕ). not (eqb z 0)) r0));
         angle = subst₂ (λ (z a : ℕ). Angle 17179869184 a (restBot d) (restTop z n d) 2) (sym hk) (sym re) an;
         proper = subst (λ (z : ℕ). restTop z n d ≤ restBot d) (sym hk) (rest-proper n d k sm);
         under = subst (λ (z : ℕ). restTop z n d * 1000 ≤ 786 * restBot d) (sym hk) (rest-under n d k sm);
@@ -254,7 +254,7 @@ module _ (neg : Bool) (n d X k : ℕ) (dp : 0 < d) (e : X * d ≡ 1099511627776 
       let re : rest q X ≡ (b - X * 256) / 16384 = ap (λ (z : ℕ). cond (eqb z 0) (X * 256 - base (q + z)) (base (q + z) - X * 256) / 16384) r1 ∙ ap (λ (z : ℕ). (base z - X * 256) / 16384) qe in
       record {
         is = nearest neg n d k dp lo hi' ∙ sym hk;
-        sign = subst (λ (z : ℕ). ltb (2 * piBot * n) (z * (piTop * d)) ≡ odd q) (sym hk) (test-true _ _ lt ∙ sym (ap (λ (z : ℕ). not (eqb z 0)) r1));
+        sign = subst (λ (z : ℕ). ltb (2 * piBot * n) (z * (piTop * d)) ≡ odd q) (sym hk) (lt-ltb _ _ lt ∙ sym (ap (λ (z : ℕ). not (eqb z 0)) r1));
         angle = subst₂ (λ (z a : ℕ). Angle 17179869184 a (restBot d) (restTop z n d) 2) (sym hk) (sym re) an;
         proper = subst (λ (z : ℕ). restTop z n d ≤ restBot d) (sym hk) (rest-proper n d k sm);
         under = subst (λ (z : ℕ). restTop z n d * 1000 ≤ 786 * restBot d) (sym hk) (rest-under n d k sm);

@@ -16,7 +16,7 @@ use Rattle.bits.specs.Parts.{narrowed}
 use Rattle.sines.specs.Steps.{dist}
 use Rattle.sines.specs.Sines.{plusZero, single}
 use Rattle.angles.proofs.Rounding.{Off, grid-off, rounded}
-use Rattle.sines.proofs.Range.{not-lt}
+use borrow.Author.Tests.{ltb-false}
 use Rattle.angles.proofs.Sides.{le-false}
 use Rattle.angle_laws.specs.Angle.{Ratio, within}
 use Rattle.angle_laws.proofs.About.{K, About, chain-low, chain-high}
@@ -125,7 +125,7 @@ module _ (m : ℕ) (x : ℤ) (t b : ℕ) (bp : 0 < b) (tb : t ≤ b) (lo : m * u
       below h = unfold lt in lt-of-le-of-lt (le-of-eq (sym (mul-one (m * up x)))) (ltb→lt (m * up x * 1) (2 * down x) (subst T (sym h) tt))
 
       above : lt (fin false m x) (fin false 1 (pos 1)) ≡ false → 2 * down x ≤ m * up x
-      above h = unfold lt in le-trans (not-lt (m * up x * 1) (2 * down x) h) (le-of-eq (mul-one (m * up x)))
+      above h = unfold lt in le-trans (ltb-false (m * up x * 1) (2 * down x) h) (le-of-eq (mul-one (m * up x)))
 
       go : (p q : Bool) → le (fin false 1 (negsuc 59)) (fin false m x) ≡ p → lt (fin false m x) (fin false 1 (pos 1)) ≡ q → within 1048576 (cond p (cond q (narrowed s (fin false m x)) plusZero) plusZero) (ratio s t b)
       go true true h k = kept s (below k)

@@ -12,7 +12,7 @@ use Rattle.angle_laws.specs.Series.{sinTop, sinBot, cosTop, cosBot, bot,
 use Rattle.angle_laws.specs.Angle.{Ratio, piTop, piBot, turn, quarters, restTop, restBot, restNeg, pickS, pickC, sine, cosine, apart}
 use Rattle.angle_laws.proofs.Nested.{sin-nested, cos-nested, sin-bot, cos-bot, top-sum, top-le}
 use Rattle.angle_laws.proofs.Reduce.{nearest}
-use Rattle.angles.proofs.Sides.{test-false}
+use borrow.Author.Tests.{le-ltb}
 
 -- ---- the series near 0: x - x (1 - t/6 N') is x t/6 N'
 cubic : (n d t N M Q K R2 D2 : ℕ) → N + R2 * M ≡ Q → Q ≡ 6 * (D2 * K) → M ≤ K → 1048576 * (n * R2) ≤ 6 * (d * D2)
@@ -73,7 +73,7 @@ module _ (n d : ℕ) (dp : 0 < d) (h : 4096 * n < d) where
       go y = omega arith
 
   pub sign0 : ltb (2 * piBot * n) (0 * (piTop * d)) ≡ false
-  sign0 = test-false (2 * piBot * n) (0 * (piTop * d)) (le-trans (le-of-eq (zero-mul (piTop * d))) zero-le)
+  sign0 = le-ltb (2 * piBot * n) (0 * (piTop * d)) (le-trans (le-of-eq (zero-mul (piTop * d))) zero-le)
 
   pub proper0 : 2 * piBot * n ≤ 2 * piBot * d
   proper0 = mul-le-mul-left (2 * piBot) (go n h)

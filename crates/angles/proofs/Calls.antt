@@ -4,6 +4,7 @@ use mathlib.Core.Bool.{Bool, true, false, cond, _&&_}
 use lib.Dec.{T}
 use lib.Ieee.{Float}
 use lib.Ieee.Scale.{finite}
+use Rattle.floats.proofs.Cross.{both}
 use Rattle.sines.specs.Sines.{plusZero, inRange, sineSteps, cosineSteps}
 use Rattle.angles.specs.Arc.{arctanSteps}
 use Rattle.angles.specs.Says.{sinOf, cosOf, atan2Of, sineSays, cosineSays, arctanSays}
@@ -53,9 +54,6 @@ module _ (x : Float) (b : Bool) (e : b ≡ inRange x) where
   cosine-out h = no b (inRange x) (Value (cosineSteps x)) (Refused 7 0) (Refused 7 0) e h refl
 
 -- ---- two arguments
-both : (a b : Bool) → a ≡ true → b ≡ true → (a && b) ≡ true
-both a b h k = ap₂ (λ (p q : Bool). p && q) h k
-
 less : (a b : Bool) → a ≡ false → (a && b) ≡ false
 less a b h = ap (λ (p : Bool). p && b) h
 
@@ -73,11 +71,11 @@ module _ (y x : Float) (a : Bool) (e : a ≡ finite y) where
 
   module _ (b : Bool) (f : b ≡ finite x) (h : a ≡ true) where
     pub allowed2 : b ≡ true → T (finite y && finite x)
-    allowed2 k = subst T (sym (both (finite y) (finite x) (sym e ∙ h) (sym f ∙ k))) tt
+    allowed2 k = subst T (sym (both (sym e ∙ h) (sym f ∙ k))) tt
 
     pub atan2-in : (r : Float) → b ≡ true → r ≡ arctanSteps y x → r ≡ atan2Of y x
     unfolding atan2Of
-    atan2-in r k g = g ∙ sym (ap (λ (z : Bool). cond z (arctanSteps y x) plusZero) (both (finite y) (finite x) (sym e ∙ h) (sym f ∙ k)))
+    atan2-in r k g = g ∙ sym (ap (λ (z : Bool). cond z (arctanSteps y x) plusZero) (both (sym e ∙ h) (sym f ∙ k)))
 
     pub atan2-x : b ≡ false → plusZero ≡ atan2Of y x
     unfolding atan2Of

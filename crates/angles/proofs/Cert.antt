@@ -11,7 +11,7 @@ use lib.Ieee.Fits.{down-pos}
 use lib.Ieee.Scale.{finite}
 use Rattle.bits.specs.Parts.{places}
 use Rattle.sines.specs.Sines.{plusZero}
-use Rattle.sines.proofs.Range.{at-most}
+use Rattle.bits.proofs.Wide.{or-le}
 use Rattle.angles.proofs.Sides.{lt-zero, mag-zero, mag-pos}
 use Rattle.angles.specs.Arc.{pi32, gridTest, certOf, ratioOf, arcSteps, magf, bestSteps}
 use Rattle.angles.specs.Guess.{arcGuess}
@@ -34,7 +34,7 @@ places-le n d dp h = le-of-mul-le-mul-right (le-trans (div-mul-le-self (n * 1099
 
 pub top-of : (m : ℕ) (e : ℤ) → le (fin false m e) (pi32 false) ≡ true → m * up e * 4194304 ≤ 13176795 * down e
 unfolding le
-top-of m e k = go (at-most (m * up e * 4194304) (13176795 * 1 * down e) true (subst T (sym k) tt))
+top-of m e k = go (or-le (m * up e * 4194304) (13176795 * 1 * down e) true (subst T (sym k) tt))
   where
     go : m * up e * 4194304 ≤ 13176795 * 1 * down e → m * up e * 4194304 ≤ 13176795 * down e
     go h = omega arith

@@ -1,6 +1,6 @@
 -- How far `round` goes: less than one unit of the last place kept. Assumes nothing.
 use Prim.Native.Nat.{ℕ, _+_, _≤_, suc, _*_, _/_, _%_, _<_, compare, _-_, _^_}
-use native.Mathlib.Nat.{mul-le-mul-right, div-mul-le-self, lt-div-mul-add, mul-pos, div-lt-iff-lt-mul, le-of-mul-le-mul-right, lt-of-mul-lt-mul-right}
+use native.Mathlib.Nat.{lt-of-lt-of-le, mul-le-mul-right, div-mul-le-self, lt-div-mul-add, mul-pos, div-lt-iff-lt-mul, le-of-mul-le-mul-right, lt-of-mul-lt-mul-right}
 use native.Mathlib.Omega.{arith}
 use lib.Ieee.{up, Format, prec, low, size, binary32, round}
 use lib.Ieee.Fits.{nearest-le}
@@ -12,7 +12,6 @@ use lib.Ieee.Scale.{grid, round-val}
 use mathlib.Core.Bool.{false}
 use lib.Dec.{lit≤}
 use lib.Ieee.Exact.{HasValue}
-use mathlib.Core.Path.{_≡_}
 
 -- g within w of n
 pub record Off (g n w : ℕ) : Type 0 where
@@ -76,14 +75,11 @@ under G c n w b cp x y = lt-of-mul-lt-mul-right c (go x y)
     go : G * c ≤ n + w * c → n < b * c → G * c < (b + w) * c
     go x y = omega arith
 
-lt-trans' : (a b c : ℕ) → a < b → b ≤ c → a < c
-lt-trans' a b c x y = omega arith
-
 -- the value of a rounded fraction below 2^(t - 125), by its grid
 pub rounded : (a c t : ℕ) → 0 < c → a * 2 ^ 149 < 2 ^ (24 + t) * c → t ≤ 250 → HasValue (round binary32 false a c) false (grid binary32 a c) (2 ^ 149)
 rounded a c t cp h tl =
     round-val binary32 a c
-    (lt-trans' (grid binary32 a c) (2 ^ (24 + t) + 2 ^ t) (2 ^ 277) (under (grid binary32 a c) c (a * 2 ^ 149) (2 ^ t) (2 ^ (24 + t)) cp (grid-off binary32 a c t cp h .low') h)
+    (lt-of-lt-of-le (under (grid binary32 a c) c (a * 2 ^ 149) (2 ^ t) (2 ^ (24 + t)) cp (grid-off binary32 a c t cp h .low') h)
     (sum (2 ^ (24 + t)) (2 ^ t) (2 ^ 274) (2 ^ 277) (pow-mono (l1 t tl)) (pow-mono (l2 t tl)) (lit≤ tt)))
   where
     l1 : (t : ℕ) → t ≤ 250 → 24 + t ≤ 274
@@ -94,16 +90,3 @@ rounded a c t cp h tl =
 
     sum : (a b c d : ℕ) → a ≤ c → b ≤ c → c + c ≤ d → a + b ≤ d
     sum a b c d x y z = omega arith
-
--- the grouping of factors, whatever they are
-pub group : (g K d : ℕ) → g * (d * K) ≡ g * K * d
-group g K d = omega arith
-
-pub off-trans : (x y z u w : ℕ) → Off x y u → Off y z w → Off x z (u + w)
-off-trans x y z u w a b = record { low' = lo (a .low') (b .low'); high' = hi (a .high') (b .high') }
-  where
-    lo : x ≤ y + u → y ≤ z + w → x ≤ z + (u + w)
-    lo p q = omega arith
-
-    hi : y ≤ x + u → z ≤ y + w → z ≤ x + (u + w)
-    hi p q = omega arith

@@ -2,7 +2,7 @@
 use mathlib.Core.Path.{_≡_, ap, refl, ap₂, _∙_, sym, subst, subst₂}
 use mathlib.Core.Bool.{true, false, Bool, _&&_, Bool·beq, cond, not, true≢false, _||_}
 use Prim.Native.Nat.{ℕ, _<_, _≤_, _+_, _*_, zero, suc, zero-le}
-use lib.Dec.{ltb, lt→ltb, T, ltb→lt, not-T, eqb, eqb→eq}
+use lib.Dec.{ltb, T, not-T, eqb, eqb→eq}
 use lib.Ieee.Bits.{is-true, is-false}
 use native.Mathlib.Omega.{arith}
 use native.Mathlib.Nat.{mul-pos, zero-lt-suc, le-trans, le-of-eq, zero-mul}
@@ -11,37 +11,29 @@ use lib.Ieee.{fin, up, down, lt, eq, nan, inf, binary32, round, div, le, Float, 
 use lib.Ieee.Fits.{up-pos, eq→eqb, down-pos}
 use Rattle.sines.specs.Sines.{plusZero}
 use Rattle.angles.specs.Arc.{magf, ratioOf, usable}
-use Rattle.sines.proofs.Range.{at-most, not-lt}
+use borrow.Author.Tests.{ltb-false, lt-ltb, le-ltb}
+use Rattle.bits.proofs.Wide.{or-le}
 use Rattle.angles.proofs.Ratio.{half-turn, Quotient, quotient}
-
-pub test-true : (a b : ℕ) → a < b → ltb a b ≡ true
-test-true a b h = is-true (ltb a b) (lt→ltb a b h)
-
-pub test-false : (a b : ℕ) → b ≤ a → ltb a b ≡ false
-test-false a b h = is-false (ltb a b) (not-T (ltb a b) (λ (t : T (ltb a b)). no (ltb→lt a b t)))
-  where
-    no : a < b → ⊥
-    no k = omega arith
 
 -- ---- signs and sizes
 pub lt-zero : (s : Bool) (m : ℕ) (e : ℤ) → 0 < m → lt (fin s m e) plusZero ≡ s
 unfolding lt
-lt-zero true m e h = test-true 0 (m * up e * 1 + 0 * down e) (go (m * up e) (down e) (mul-pos h (up-pos e)))
+lt-zero true m e h = lt-ltb 0 (m * up e * 1 + 0 * down e) (go (m * up e) (down e) (mul-pos h (up-pos e)))
   where
     go : (n d : ℕ) → 0 < n → 0 < n * 1 + 0 * d
     go n d h = omega arith
-lt-zero false m e h = test-false (m * up e * 1) (0 * down e) (go (m * up e) (down e))
+lt-zero false m e h = le-ltb (m * up e * 1) (0 * down e) (go (m * up e) (down e))
   where
     go : (n d : ℕ) → 0 * d ≤ n * 1
     go n d = omega arith
 
 pub zero-lt : (s : Bool) (e : ℤ) → lt (fin s 0 e) plusZero ≡ false
 unfolding lt
-zero-lt true e = test-false 0 (0 * up e * 1 + 0 * down e) (go (up e) (down e))
+zero-lt true e = le-ltb 0 (0 * up e * 1 + 0 * down e) (go (up e) (down e))
   where
     go : (n d : ℕ) → 0 * n * 1 + 0 * d ≤ 0
     go n d = omega arith
-zero-lt false e = test-false (0 * up e * 1) (0 * down e) (go (up e) (down e))
+zero-lt false e = le-ltb (0 * up e * 1) (0 * down e) (go (up e) (down e))
   where
     go : (n d : ℕ) → 0 * d ≤ 0 * n * 1
     go n d = omega arith
@@ -86,11 +78,11 @@ div-fin m e n d h = ap (λ (b : Bool). cond b (cond (eqb m 0) nan (inf false)) (
 
 pub le-true : (m : ℕ) (e : ℤ) (n : ℕ) (d : ℤ) → le (fin false m e) (fin false n d) ≡ true → m * up e * down d ≤ n * up d * down e
 unfolding le
-le-true m e n d h = at-most (m * up e * down d) (n * up d * down e) true (subst T (sym h) tt)
+le-true m e n d h = or-le (m * up e * down d) (n * up d * down e) true (subst T (sym h) tt)
 
 pub le-false : (m : ℕ) (e : ℤ) (n : ℕ) (d : ℤ) → le (fin false m e) (fin false n d) ≡ false → n * up d * down e ≤ m * up e * down d
 unfolding le
-le-false m e n d h = not-lt (m * up e * down d) (n * up d * down e) (or-false (ltb (m * up e * down d) (n * up d * down e)) _ h)
+le-false m e n d h = ltb-false (m * up e * down d) (n * up d * down e) (or-false (ltb (m * up e * down d) (n * up d * down e)) _ h)
   where
     or-false : (a b : Bool) → a || b ≡ false → a ≡ false
     or-false true b h = h
@@ -99,7 +91,7 @@ le-false m e n d h = not-lt (m * up e * down d) (n * up d * down e) (or-false (l
 -- ---- x zero, of either sign
 pub le-zero : (m : ℕ) (e : ℤ) → 0 < m → le (fin false m e) plusZero ≡ false
 unfolding le
-le-zero m e h = ap₂ (λ (a b : Bool). a || (b && true)) (test-false (m * up e * 1) (0 * down e) (g1 (m * up e) (down e))) (is-false (eqb (m * up e * 1) (0 * down e)) (not-T (eqb (m * up e * 1) (0 * down e)) (λ (t : T (eqb (m * up e * 1) (0 * down e))). no (m * up e) (down e) (mul-pos h (up-pos e)) (eqb→eq (m * up e * 1) (0 * down e) t))))
+le-zero m e h = ap₂ (λ (a b : Bool). a || (b && true)) (le-ltb (m * up e * 1) (0 * down e) (g1 (m * up e) (down e))) (is-false (eqb (m * up e * 1) (0 * down e)) (not-T (eqb (m * up e * 1) (0 * down e)) (λ (t : T (eqb (m * up e * 1) (0 * down e))). no (m * up e) (down e) (mul-pos h (up-pos e)) (eqb→eq (m * up e * 1) (0 * down e) t))))
   where
     g1 : (n d : ℕ) → 0 * d ≤ n * 1
     g1 n d = omega arith

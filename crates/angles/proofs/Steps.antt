@@ -1,13 +1,13 @@
 -- The steps, branch by branch: what the code's proofs cite. Assumes nothing.
 use mathlib.Core.Path.{_≡_, refl, sym, ap, ap₂, _∙_, subst}
-use mathlib.Core.Bool.{Bool, true, cond, false, not, true≢false}
+use mathlib.Core.Bool.{Bool, true, cond, false, true≢false}
 use Prim.Native.Nat.{ℕ, zero, suc, _+_, _-_, _/_, min, _≤_, _<_, _*_, _^_}
 use lib.Ieee.{Float, neg, lt, eq, binary32, mul, ofInt, le}
 use lib.IntN.{pos}
 use native.Mathlib.Omega.{arith}
-use lib.Dec.{leb, le→leb, T, leb→le, not-T, lit≤, lit<}
-use lib.Ieee.Bits.{is-true, is-false}
-use native.Mathlib.Nat.{lt-irrefl, lt-of-lt-of-le, le-trans, mul-le-mul, lt-of-le-of-lt}
+use lib.Dec.{lit≤, lit<}
+use native.Mathlib.Nat.{le-trans, mul-le-mul, lt-of-le-of-lt}
+use borrow.Author.Tests.{le-leb, lt-leb}
 use Rattle.sines.specs.Sines.{plusZero}
 use Rattle.angles.specs.Arc.{magf, angleOf, unit22, eighthOf, ratioOf, arcSteps, minusSize, plusOver, lineTest, turnTest}
 use Rattle.sines.specs.Steps.{seek, xor, dist}
@@ -65,22 +65,16 @@ dist-up u v h = omega arith
 pub dist-down : (u v : ℕ) → v < u → u - v ≡ dist u v
 dist-down u v h = omega arith
 
-leb-yes : (a b : ℕ) → a ≤ b → leb a b ≡ true
-leb-yes a b h = is-true (leb a b) (le→leb a b h)
-
-leb-no : (a b : ℕ) → b < a → leb a b ≡ false
-leb-no a b h = is-false (leb a b) (not-T (leb a b) (λ (t : T (leb a b)). lt-irrefl b (lt-of-lt-of-le h (leb→le a b t))))
-
 pub line-yes : (back : Bool) (py px : ℕ) (ns : Bool) (vs : ℕ) (nc : Bool) (vc : ℕ) (d d' r : Bool) (g : ℕ) → d ≡ xor back ns → g ≡ minusSize nc (py * vc) d (px * vs) → g ≤ 8796093022208 → d' ≡ xor back nc → r ≡ plusOver d' (px * vc) ns (py * vs) → r ≡ lineTest back py px ns vs nc vc
 unfolding lineTest
 line-yes back py px ns vs nc vc d d' r g e f h e' k =
     k ∙ ap (λ (z : Bool). plusOver z (px * vc) ns (py * vs)) e'
-    ∙ sym (ap (λ (z : Bool). cond z (plusOver (xor back nc) (px * vc) ns (py * vs)) false) (leb-yes (minusSize nc (py * vc) (xor back ns) (px * vs)) 8796093022208 (subst (λ (z : ℕ). z ≤ 8796093022208) (f ∙ ap (λ (z : Bool). minusSize nc (py * vc) z (px * vs)) e) h)))
+    ∙ sym (ap (λ (z : Bool). cond z (plusOver (xor back nc) (px * vc) ns (py * vs)) false) (le-leb (minusSize nc (py * vc) (xor back ns) (px * vs)) 8796093022208 (subst (λ (z : ℕ). z ≤ 8796093022208) (f ∙ ap (λ (z : Bool). minusSize nc (py * vc) z (px * vs)) e) h)))
 
 pub line-no : (back : Bool) (py px : ℕ) (ns : Bool) (vs : ℕ) (nc : Bool) (vc : ℕ) (d : Bool) (g : ℕ) → d ≡ xor back ns → g ≡ minusSize nc (py * vc) d (px * vs) → 8796093022208 < g → false ≡ lineTest back py px ns vs nc vc
 unfolding lineTest
 line-no back py px ns vs nc vc d g e f h =
-    sym (ap (λ (z : Bool). cond z (plusOver (xor back nc) (px * vc) ns (py * vs)) false) (leb-no (minusSize nc (py * vc) (xor back ns) (px * vs)) 8796093022208 (subst (λ (z : ℕ). 8796093022208 < z) (f ∙ ap (λ (z : Bool). minusSize nc (py * vc) z (px * vs)) e) h)))
+    sym (ap (λ (z : Bool). cond z (plusOver (xor back nc) (px * vc) ns (py * vs)) false) (lt-leb (minusSize nc (py * vc) (xor back ns) (px * vs)) 8796093022208 (subst (λ (z : ℕ). 8796093022208 < z) (f ∙ ap (λ (z : Bool). minusSize nc (py * vc) z (px * vs)) e) h)))
 
 pub mul-small : (a b : ℕ) → a ≤ 2147484168 → b ≤ 2147483648 → a * b ≤ 6917529027641081856
 mul-small a b x y = le-trans (mul-le-mul x y) (lit≤ tt)

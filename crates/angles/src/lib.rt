@@ -9,11 +9,11 @@
 // `sin`, `cos` and `atan2` take every f32 and give +0 where document 01 has the call refused. `sine`,
 // `cosine` and `arctangent` say so instead, with document 01's number and place.
 ghost use mathlib.Core.Path.{_≡_};
-ghost use mathlib.Core.Bool.{Bool, true, false, not, cond, _&&_};
-ghost use Prim.Native.Nat.{ℕ, _+_, _-_, _*_, _/_, _%_, _<_, _≤_, min};
+ghost use mathlib.Core.Bool.{true, false, not, _&&_};
+ghost use Prim.Native.Nat.{_+_, _-_, _*_, _/_, _%_, _<_, _≤_, min};
 ghost use lib.Dec.{T};
 ghost use lib.IntN.{pos};
-ghost use lib.Ieee.{Float, fin, binary32, lt, mul, div, ofInt};
+ghost use lib.Ieee.{fin, binary32, lt, mul, div, ofInt};
 ghost use lib.Ieee.Scale.{finite};
 ghost use Rattle.sines.specs.Steps.{rest, sinFix, cosFix, seek};
 ghost use Rattle.sines.specs.Sines.{plusZero};

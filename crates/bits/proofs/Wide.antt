@@ -1,18 +1,19 @@
 -- The bit pattern of a binary64 from 2^-60 to below 2: its 53 digits are a whole number, and the value is that number over a power of two. Assumes nothing.
 use mathlib.Core.Path.{_≡_, refl, sym, ap, _∙_, subst}
 use Prim.Native.Nat.{ℕ, zero, suc, _+_, _-_, _*_, _/_, _%_, _^_, _≤_, _<_}
-use native.Mathlib.Nat.{le-trans, le-of-eq, lt-of-lt-of-le, lt-of-le-of-lt, mul-one, one-mul, mul-comm, mul-assoc, mul-pos, mul-le-mul-left, mul-le-mul-right, mul-lt-mul-of-pos-right, le-of-mul-le-mul-right, lt-of-mul-lt-mul-right, lt-irrefl}
+use native.Mathlib.Nat.{le-trans, le-of-eq, lt-of-lt-of-le, lt-of-le-of-lt, mul-one, one-mul, mul-assoc, mul-le-mul-left, mul-le-mul-right, mul-lt-mul-of-pos-right, le-of-mul-le-mul-right, lt-of-mul-lt-mul-right, lt-irrefl}
 use native.Mathlib.Omega.{arith}
-use mathlib.Core.Bool.{Bool, true, false, not, cond, _&&_, _||_, Bool·beq, true≢false}
+use mathlib.Core.Bool.{Bool, true, false, not, cond, _&&_, _||_, true≢false}
 use lib.IntN.{ℤ, pos, negsuc}
-use lib.Dec.{T, leb, ltb, eqb, ltb→lt, leb→le, eqb→eq, le→leb, nltb→le, nleb→lt, not-T, lit<, lit≤}
-use lib.Pow.{pow-add, pow-pos, pow-mono, pow-lt}
+use lib.Dec.{T, leb, ltb, eqb, ltb→lt, eqb→eq, nleb→lt, not-T, lit≤}
+use lib.Pow.{pow-add, pow-pos}
 use lib.Ieee.{Float, nan, inf, fin, binary32, binary64, up, down, round, odd, fits, le, lt, ofFields, ofBits, toBits, isNan}
-use lib.Ieee.Bits.{is-true, cond-no, ofBits-toBits, toBits-lt}
+use lib.Ieee.Bits.{is-true, cond-no, ofBits-toBits}
 use lib.Ieee.Fits.{down-pos, eq→eqb}
 use lib.Ieee.Exact.{HasValue, odd-sign}
 use lib.Ieee.Scale.{round-same}
 use Rattle.bits.specs.Parts.{narrowed}
+use Rattle.bits.proofs.Rounding.{pow-lt-back}
 
 -- ---- what the two tests say
 pub record Unit (w : Float) : Type 0 where
@@ -22,7 +23,7 @@ pub record Unit (w : Float) : Type 0 where
   pub least : down e ≤ m * up e * 2 ^ 60
   pub below : m * up e < 2 * down e
 
-or-le : (a b : ℕ) (r : Bool) → T (ltb a b || (eqb a b && r)) → a ≤ b
+pub or-le : (a b : ℕ) (r : Bool) → T (ltb a b || (eqb a b && r)) → a ≤ b
 or-le a b r t = go (ltb a b) (eqb a b) (ltb→lt a b) (eqb→eq a b) t
   where
     go : (p q : Bool) → (T p → a < b) → (T q → a ≡ b) → T (p || (q && r)) → a ≤ b
@@ -101,13 +102,6 @@ lower x d C N A cp e h dp = lt-of-mul-lt-mul-right d (lt-of-le-of-lt (le-of-eq (
     g1 : A * d * C ≡ A * C * d
     g1 = omega arith
 
-exp-lt : (i j : ℕ) → 2 ^ i < 2 ^ j → i < j
-exp-lt i j h = go (ltb i j) (ltb→lt i j) (nltb→le i j)
-  where
-    go : (b : Bool) → (T b → i < j) → (T (not b) → j ≤ i) → i < j
-    go true y n = y tt
-    go false y n = absurd (lt-irrefl (2 ^ i) (lt-of-lt-of-le h (pow-mono (n tt))))
-
 -- what the code reads off the pattern
 pub record Read (w : Float) : Type 0 where
   pub field-low : 963 ≤ toBits binary64 w / 4503599627370496
@@ -129,8 +123,8 @@ module _ (m : ℕ) (e : ℤ) (lo : down e ≤ m * up e * 2 ^ 60) (hi : m * up e 
       let l2 : 2 ^ 1074 < 2 ^ (53 + (z + 60)) = lt-of-le-of-lt l1 (lt-of-le-of-lt (le-of-eq (mul-assoc M (2 ^ z) (2 ^ 60) ∙ ap (λ (n : ℕ). M * n) (sym (pow-add 2 z 60)))) (lt-of-lt-of-le (mul-lt-mul-of-pos-right {m = M} {n = 2 ^ 53} (small t tl) (pow-pos (z + 60))) (le-of-eq (sym (pow-add 2 53 (z + 60)))))) in
       let h1 : M * 2 ^ z < 2 * 2 ^ 1074 = lower (m * up e) (down e) (2 ^ 1074) (M * 2 ^ z) 2 (pow-pos 1074) (v .1) hi (down-pos e) in
       let h2 : 2 ^ (52 + z) < 2 ^ 1075 = lt-of-le-of-lt (le-trans (le-of-eq (pow-add 2 52 z)) (mul-le-mul-right {m = 2 ^ 52} {n = M} (2 ^ z) (big t))) (lt-of-lt-of-le h1 (lit≤ tt)) in
-      let z1 : 962 ≤ z = f1 z (exp-lt 1074 (53 + (z + 60)) l2) in
-      let z2 : z ≤ 1022 = f2 z (exp-lt (52 + z) 1075 h2) in
+      let z1 : 962 ≤ z = f1 z (pow-lt-back 1074 (53 + (z + 60)) l2) in
+      let z2 : z ≤ 1022 = f2 z (pow-lt-back (52 + z) 1075 h2) in
       (sym (v .0), (z1, (z2, (refl, native.Mathlib.Nat.eq-of-mul-eq-mul-right (2 ^ z) (pow-pos z) _ _ (g1 (m * up e) (2 ^ (1074 - z)) (2 ^ z) ∙ ap (λ (n : ℕ). m * up e * n) (sym (pow-add 2 (1074 - z) z) ∙ ap (λ (n : ℕ). 2 ^ n) (back z z2)) ∙ v .1 ∙ g2 M (2 ^ z) (down e))))))
     where
       small : (t : ℕ) → t < 4503599627370496 → 4503599627370496 + t < 9007199254740992

@@ -1,9 +1,9 @@
 -- THE THEOREM on a clearing: over links that were built, a query for which the nearest of those listed passes the test finds that one, whatever the floats. Assumes nothing.
-use mathlib.Core.Path.{_≡_, refl, sym, ap, _∙_, subst}
+use mathlib.Core.Path.{_≡_, sym, ap, _∙_, subst}
 use mathlib.Core.Logic.{_⊎_, inl, inr}
-use mathlib.Core.Bool.{Bool, true, false}
-use mathlib.Core.List.{List, _∷_, _++_}
-use Prim.Native.Nat.{ℕ, zero, suc, _+_, _<_, _≤_}
+use mathlib.Core.Bool.{true, false}
+use mathlib.Core.List.{List, _∷_}
+use Prim.Native.Nat.{ℕ, suc, _+_, _<_}
 use native.Mathlib.Omega.{arith}
 use lib.Dec.{T}
 use lib.Ieee.{Float, lt}
@@ -13,13 +13,12 @@ use Rattle.floats.proofs.Preorder.{number, lt-numbers}
 use Rattle.floats.proofs.Cross.{of-taken}
 use Rattle.points.specs.declared.Point3.{Point3}
 use Rattle.points.specs.Points.{pointAt, distSq}
-use Rattle.kdtree.specs.declared.Best.{Best}
 use Rattle.kdtree.specs.declared.Searched.{Searched}
 use Rattle.kdtree.specs.declared.Searched.the-variants.{Found, Stopped}
 use Rattle.kdtree.specs.Tree.{Tree, subtree}
 use Rattle.kdtree.specs.Search as pruned
 use Rattle.kdtree.specs.Nearest.{startAt, startOf, foundFrom, placeOf}
-use Rattle.kdtree.specs.Unpruned.{Pick, pickOf, Item, walk, order, size}
+use Rattle.kdtree.specs.Unpruned.{Pick, pickOf, Item, order, size}
 use Rattle.kdtree.proofs.Nodes.{All}
 use Rattle.walks.specs.Demand3.{Numbered}
 use Rattle.walks.proofs.Lists.{each-right, each-in, each-ordered}
@@ -27,9 +26,8 @@ use Rattle.walks.proofs.First.{tf, scan, walk-scan, all-order, scan-least, Name
 use Rattle.walks.proofs.Pruned.{Agrees, prune}
 use Rattle.walks.proofs.Rep.{rep-at}
 use Rattle.walks.proofs.Sides.{all-map, all-both, sorted-within}
-use Rattle.walks.proofs.Filled.{Filled, comesTo, root-clean, root-nodes}
+use Rattle.walks.proofs.Filled.{Filled, root-clean, root-nodes}
 use Rattle.walks.proofs.Demand3.{each-standing}
-use Rattle.lookup.specs.declared.Located.{Located}
 use Rattle.lookup.specs.declared.Located.the-variants.{At}
 use Rattle.lookup.specs.Build.{Links, linked, boxOf, boxTo}
 use Rattle.lookup.specs.Lookup.{locatedAs}

@@ -1,11 +1,11 @@
 -- Every measurement of a tree but the one whose clearing it is is listed in it, or stands outside of the open box: of any floats. Assumes nothing.
-use mathlib.Core.Path.{_≡_, refl, sym, ap, _∙_, subst}
+use mathlib.Core.Path.{_≡_, refl, sym, _∙_, subst}
 use mathlib.Core.Logic.{_⊎_, inl, inr}
 use mathlib.Core.Bool.{Bool, true, false, cond, not, _&&_, _||_}
 use Prim.Native.Nat.{ℕ, zero, suc, _+_, _<_, _≤_}
 use native.Mathlib.Omega.{arith}
 use lib.Dec.{T, eqb, ltb, eqb→eq, ltb→lt, T-not, not-T}
-use lib.ListN.{length, getD, set, length-set, length-replicate}
+use lib.ListN.{length, getD, length-set, length-replicate}
 use lib.Seq.{getD-set-same, getD-set-other}
 use lib.Ieee.{Float, lt, le}
 use Rattle.floats.proofs.Cross.{of-taken, of-left}
@@ -17,7 +17,7 @@ use Rattle.kdtree.specs.Tree.{Tree, gone, bad, node}
 use Rattle.kdtree.proofs.Nodes.{All}
 use Rattle.walks.proofs.Sides.{Sorted, all-map}
 use Rattle.clearing.specs.declared.Clearing.{Clearing}
-use Rattle.clearing.specs.Clearing.{between, holds, farAxis, drawnIn, most, listed, faced, around, met, reaches, cleared}
+use Rattle.clearing.specs.Clearing.{holds, farAxis, drawnIn, most, listed, faced, around, met, reaches, cleared}
 
 -- ---- outside of an open box: not past one of its faces, to the inside, on some axis
 

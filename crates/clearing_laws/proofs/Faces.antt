@@ -1,11 +1,11 @@
 -- What stands outside of an open box is no nearer to a query inside than a face is: of any floats, by the box lemma for the half of space behind the face. Assumes nothing.
 use mathlib.Core.Path.{_≡_, refl, sym, ap, _∙_, subst}
 use mathlib.Core.Logic.{_⊎_, inl, inr}
-use mathlib.Core.Bool.{Bool, true, false, cond, not, _&&_, _||_}
+use mathlib.Core.Bool.{Bool, true, false, not, _&&_, _||_}
 use Prim.Native.Nat.{ℕ, zero, suc}
-use lib.Dec.{T, eqb, eqb→eq, T-not, not-T}
-use lib.Ieee.{Float, nan, inf, fin, binary32, add, sub, lt, le}
-use lib.Ieee.Bits.{is-true, is-false}
+use lib.Dec.{T, eqb, eqb→eq, T-not}
+use lib.Ieee.{Float, nan, inf, fin, binary32, add, lt}
+use lib.Ieee.Bits.{is-true}
 use Rattle.floats.specs.Floats.{zero32}
 use Rattle.floats.proofs.Cross.{of-taken, of-left}
 use Rattle.floats.proofs.Preorder.{lt-irrefl-f, lt-trans-f, number, lt-numbers, not-lt→le, lt-le-trans}
@@ -13,8 +13,8 @@ use Rattle.points.specs.declared.Point3.{Point3}
 use Rattle.points.specs.Points.{gap, distSq}
 use Rattle.kdtree.specs.declared.BoundingBox.{BoundingBox}
 use Rattle.kdtree.specs.Geometry.{byAxis, coordOf, boxAt, outside, boxDistSq, withMin, withMax, minAt, maxAt}
-use Rattle.walks.proofs.Box.{Between, Inside, box-under, from-zero}
-use Rattle.clearing.specs.Clearing.{between, nearerThanFaces, aloneIn, none}
+use Rattle.walks.proofs.Box.{Between, box-under, from-zero}
+use Rattle.clearing.specs.Clearing.{nearerThanFaces, aloneIn, none}
 use Rattle.clearing_laws.proofs.Cleared.{Out}
 
 -- ---- nothing is beyond infinity

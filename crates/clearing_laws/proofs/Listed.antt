@@ -8,9 +8,10 @@ use native.Mathlib.Omega.{arith}
 use lib.Dec.{T, eqb, ltb, eqb→eq, ltb→lt, lt→ltb, nltb→le, T-not}
 use lib.ListN.{getD}
 use lib.Ieee.{Float, lt, le}
+use lib.Ieee.Bits.{is-true}
 use borrow.Author.Tests.{eqb-false}
 use Rattle.floats.proofs.Preorder.{number, lt-not-le, lt→le, lt-irrefl-f, le-lt-trans}
-use Rattle.floats.proofs.Cross.{of-taken, of-left, is-true, is-false}
+use Rattle.floats.proofs.Cross.{of-taken, of-left, is-false}
 use Rattle.points.specs.declared.Point3.{Point3}
 use Rattle.points.specs.Points.{pointAt, distSq}
 use Rattle.walks.proofs.First.{tf}

@@ -9,24 +9,15 @@ use lib.IntN.{negsuc}
 use lib.Ieee.{Float, nan, inf, fin, binary32, fits, up, down, le}
 use lib.Ieee.Fits.{down-pos}
 use Rattle.floats.proofs.Cross.{cross→le}
-use Rattle.sines.specs.Steps.{dist, sinDivs, cosDivs}
+use Rattle.sines.specs.Steps.{dist}
 use Rattle.sines.specs.Sines.{plusZero, inRange, sineSteps, cosineSteps}
 use Rattle.angles.specs.Says.{sinOf, cosOf}
-use Rattle.angle_laws.specs.Series.{sinTop, sinBot, cosTop, cosBot}
 use Rattle.angle_laws.specs.Angle.{Ratio, piTop, piBot, quarters, turn, restTop, restBot, restNeg, pickS, pickC, sine, cosine, S, C, within}
-use Rattle.angle_laws.proofs.Nested.{top-le, sin-nested, cos-nested, sin-bot, cos-bot}
+use Rattle.angle_laws.proofs.Chosen.{sin-le, cos-le}
 use Rattle.angle_laws.proofs.Reduce.{rest-small, rest-proper}
 use Rattle.angle_laws.proofs.Line.{sin-bot-pos, cos-bot-pos}
 use Rattle.angle_laws.proofs.Near.{sine-near, cosine-near}
 use Rattle.coord_laws.proofs.Size.{Small}
-
--- ---- the series at r ≤ 1
-
-sin-le : (R D : ℕ) → R ≤ D → sinTop R D ≤ sinBot D
-sin-le R D h = rw (sin-nested R D h, sin-bot D) (mul-le-mul h (top-le (R * R) (D * D) sinDivs tt (mul-le-mul h h)))
-
-cos-le : (R D : ℕ) → R ≤ D → cosTop R D ≤ cosBot D
-cos-le R D h = rw (cos-nested R D h, cos-bot D) (top-le (R * R) (D * D) cosDivs tt (mul-le-mul h h))
 
 -- ---- r is at most 1 in size, for any x
 

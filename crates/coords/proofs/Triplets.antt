@@ -1,6 +1,6 @@
 -- The loop that changes a list three values at a time, for any change of a triplet: what is changed so far, followed by what is left to change,
 -- is the whole. Assumes nothing.
-use Prim.Native.Nat.{ℕ, suc, _+_, _-_, _*_, _/_, _^_, _≤_, _<_}
+use Prim.Native.Nat.{ℕ, suc, _+_, _*_, _/_, _^_, _≤_, _<_}
 use mathlib.Core.Path.{_≡_, refl, _∙_}
 use mathlib.Core.List.{List, [], _∷_, _++_, append-assoc}
 use native.Mathlib.Omega.{arith}
@@ -29,17 +29,8 @@ second-there i len h = omega arith
 pub as-long : (i len₀ len : ℕ) → i < len₀ → len ≡ len₀ → i < len
 as-long i len₀ len h e = omega arith
 
-pub index-fits : (i len : ℕ) → i < len → len < 2 ^ 64 → Fits w64 i
-index-fits i len h g = record { fits = omega arith }
-
 pub next-fits : (place len : ℕ) → place < len / 3 → len < 2 ^ 64 → Fits w64 (place + 1)
 next-fits place len h g = record { fits = omega arith }
-
-pub next-in : (place n : ℕ) → place < n → place + 1 ≤ n
-next-in place n h = omega arith
-
-pub next-less : (place n : ℕ) → place < n → n - (place + 1) < n - place
-next-less place n h = omega arith
 
 pub at-end : (place len₀ len : ℕ) → len₀ / 3 ≤ place → len ≡ len₀ → len < 3 * place + 3
 at-end place len₀ len h e = omega arith

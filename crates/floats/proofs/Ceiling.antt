@@ -9,11 +9,12 @@ use lib.Dec.{T, eqb, ltb, leb, eqb→eq, ltb→lt, lt→ltb, nltb→le}
 use lib.Pow.{pow-pos}
 use lib.Ieee.{Float, nan, inf, fin, binary32, up, down, lt, le, fits, ofInt, round, toUnsigned}
 use lib.Ieee.Exact.{HasValue}
+use lib.Ieee.Bits.{is-true}
 use lib.Ieee.Scale.{finite}
 use lib.Ieee.Back.{round-whole}
 use lib.Ieee.Fits.{down-pos, eq→eqb, and-l, and-r}
 use Rattle.floats.specs.Floats.{zero32, ceilOf}
-use Rattle.floats.proofs.Cross.{of-taken, of-left, is-true, is-false, iff→eq, le→cross, cross→le}
+use Rattle.floats.proofs.Cross.{of-taken, of-left, is-false, iff→eq, le→cross, cross→le}
 use Rattle.floats.proofs.Preorder.{nan-le}
 
 -- 2^31 and 2^24

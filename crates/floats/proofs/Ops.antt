@@ -1,7 +1,7 @@
 -- The rounded operations keep the order. A difference x - y with y < x is not negative, grows with x and falls with y; a square grows with the magnitude;
 -- a sum of values that are not negative grows with each, and is no less than either. Overflow to an infinity and underflow to 0 are included. Assumes nothing.
 use mathlib.Core.Path.{_≡_, refl, sym, ap, _∙_, subst}
-use Prim.Native.Nat.{ℕ, _+_, _-_, _*_, _≤_, _<_}
+use Prim.Native.Nat.{ℕ, _+_, _-_, _*_, _<_}
 use native.Mathlib.Nat.{le-of-lt, not-le-of-lt, mul-comm, mul-one, one-mul, zero-mul, add-zero, add-comm, mul-pos}
 use native.Mathlib.Omega.{arith}
 use mathlib.Core.Bool.{Bool, true, false, not, _&&_, cond}
@@ -12,9 +12,9 @@ use lib.Ieee.Fits.{down-pos}
 use lib.Ieee.Order.{round-mono}
 use lib.Ieee.Positive.{den, den-pos}
 use lib.Ieee.Scale.{finite}
-use Rattle.floats.proofs.Cross.{plus, less, cross, lt-is, le→cross, cross→le, shift, shift-below, sums, squares}
+use Rattle.floats.proofs.Cross.{plus, less, cross, lt-is, le→cross, cross→le, nonneg-cross, shift, shift-below, sums, squares}
 use Rattle.floats.proofs.Preorder.{number, le-nan, nan-le, le-refl-f, lt-le-trans, le-lt-trans}
-use Rattle.floats.proofs.Sign.{nonneg, round-neg, round-nonneg, sq-neg}
+use Rattle.floats.proofs.Sign.{nonneg, round-neg, round-nonneg}
 use Rattle.floats.proofs.Values.{round-back}
 
 pub nonneg-number : (x : Float) → T (nonneg x) → T (number x)
@@ -184,13 +184,6 @@ sub-anti f p u x P L X h k =
     (round-mono f (cross p u - cross u p) (den p * den u) (cross p x - cross x p) (den p * den x) (mul-pos P' (den-pos u)) (mul-pos P' (den-pos x))
     (shift-below (plus u) (less u) (den u) (plus x) (less x) (den x) (plus p) (less p) (den p) (le→cross x u X L k))))
 
--- x ≤ u < p: the two differences as they are, which are negative, x - p ≤ u - p
-pub sub-mono-below : (f : Format) (p u x : Float) → T (finite p) → T (finite u) → T (finite x) → T (lt u p) → T (le x u) → T (le (sub f x p) (sub f u p))
-sub-mono-below f p u x P L X h k =
-    subst (λ (z : Float). T (le z (sub f u p))) (sym (sub-flip f x p X P (le-lt-trans x u p k h)))
-    (subst (λ (z : Float). T (le (neg (sub f p x)) z)) (sym (sub-flip f u p L P h))
-    (neg-le (sub f p u) (sub f p x) (sub-anti f p u x P L X h k)))
-
 -- ---- the square
 unlike-self : (f : Format) (s : Bool) (m : ℕ) (e : ℤ) → mul f (fin s m e) (fin s m e) ≡ round f false (m * up e * (m * up e)) (down e * down e)
 unfolding mul
@@ -202,9 +195,6 @@ sq-nonneg f nan t = unfold isNan in absurd t
 sq-nonneg f (inf true) t = unfold mul in tt
 sq-nonneg f (inf false) t = unfold mul in tt
 sq-nonneg f (fin s m e) t = subst (λ (z : Float). T (nonneg z)) (sym (unlike-self f s m e)) (round-nonneg f (m * up e * (m * up e)) (down e * down e))
-
-nonneg-cross : (m : ℕ) (e : ℤ) (n : ℕ) (d : ℤ) → T (le (fin false m e) (fin false n d)) → m * up e * down d ≤ n * up d * down e
-nonneg-cross m e n d h = omega (arith, le→cross (fin false m e) (fin false n d) tt tt h)
 
 pub sq-mono : (f : Format) (x y : Float) → T (nonneg x) → T (nonneg y) → T (le x y) → T (le (mul f x x) (mul f y y))
 sq-mono f nan y p q h = absurd p
@@ -226,12 +216,6 @@ sq-mono f (fin false m e) (fin false n d) p q h =
     (subst (λ (z : Float). T (le (round f false (m * up e * (m * up e)) (down e * down e)) z)) (sym (unlike-self f false n d))
     (round-mono f (m * up e * (m * up e)) (down e * down e) (n * up d * (n * up d)) (down d * down d) (mul-pos (down-pos e) (down-pos e)) (mul-pos (down-pos d) (down-pos d))
     (squares (m * up e) (down e) (n * up d) (down d) (nonneg-cross m e n d h))))
-
--- of two that are not positive, the lesser has the greater square
-pub sq-anti : (f : Format) (x y : Float) → T (nonneg (neg x)) → T (nonneg (neg y)) → T (le x y) → T (le (mul f y y) (mul f x x))
-sq-anti f x y p q h =
-    subst (λ (z : Float). T (le z (mul f x x))) (sq-neg f y)
-    (subst (λ (z : Float). T (le (mul f (neg y) (neg y)) z)) (sq-neg f x) (sq-mono f (neg y) (neg x) q p (neg-le x y h)))
 
 -- ---- the sum of two that are not negative
 add-is : (f : Format) (m : ℕ) (e : ℤ) (n : ℕ) (d : ℤ) → add f (fin false m e) (fin false n d) ≡ round f false (m * up e * down d + n * up d * down e) (down e * down d)

@@ -3,7 +3,7 @@ use Prim.Native.Nat.{ℕ, _%_, _≤_, _<_}
 use mathlib.Core.Path.{_≡_, refl, sym, subst, _∙_}
 use mathlib.Core.Bool.{Bool, true, false, not}
 use lib.Dec.{T}
-use lib.Ieee.{Float, nan, inf, fin, binary32, ofBits, isNan, nanBits, ne, lt}
+use lib.Ieee.{Float, nan, inf, fin, binary32, ofBits, isNan, nanBits, ne}
 use lib.Ieee.Bits.{nanBits-is, nanBits-above}
 use borrow.Author.Tests.{lt-ltb, le-ltb}
 use Rattle.floats.proofs.Tests.{differs, same}
@@ -25,10 +25,3 @@ ne-nan x e = nan-only x (differs x e)
 
 pub no-nan : (x : Float) → ne x x ≡ false → T (not (isNan x))
 no-nan x e = subst (λ (b : Bool). T (not b)) (sym (same x e)) tt
-
--- what is less than something is no NaN
-pub less-no-nan : (x y : Float) → lt x y ≡ true → T (not (isNan x))
-unfolding lt isNan
-less-no-nan nan y e = absurd (subst T (sym e) tt)
-less-no-nan (inf s) y e = tt
-less-no-nan (fin s m k) y e = tt

@@ -1,9 +1,8 @@
 -- Rounded quotients and products of finite values that are not negative: they keep the order, a quotient of a value by a larger one is at most 1,
 -- and a product with a factor of at most 1 is at most the other factor. Assumes nothing.
 use mathlib.Core.Path.{_≡_, refl, sym, subst}
-use mathlib.Core.Logic.{_⊎_, inl, inr}
-use Prim.Native.Nat.{ℕ, zero, suc, _+_, _*_, _≤_, _<_}
-use native.Mathlib.Nat.{le-trans, le-of-eq, mul-comm, mul-assoc, mul-left-comm, mul-one, one-mul, mul-pos, mul-le-mul, mul-mul-mul-comm, lt-irrefl, eq-zero-or-pos}
+use Prim.Native.Nat.{ℕ, zero, suc, _*_, _≤_, _<_}
+use native.Mathlib.Nat.{le-trans, le-of-eq, mul-comm, mul-assoc, mul-left-comm, mul-one, one-mul, mul-pos, mul-le-mul, mul-mul-mul-comm, lt-irrefl}
 use native.Mathlib.Omega.{arith}
 use mathlib.Core.Bool.{Bool, true, false, not, cond}
 use lib.IntN.{ℤ, pos}
@@ -11,9 +10,9 @@ use lib.Dec.{T, ltb, eqb, eqb→eq, ltb→lt}
 use lib.Ieee.{Float, nan, inf, fin, Format, up, down, round, mul, div, le, fits, binary32}
 use lib.Ieee.Fits.{up-pos, down-pos}
 use lib.Ieee.Order.{round-mono}
-use lib.Ieee.Positive.{num, positive}
-use Rattle.floats.proofs.Cross.{le→cross}
-use Rattle.floats.proofs.Values.{value-unique, round-back}
+use lib.Ieee.Positive.{positive}
+use Rattle.floats.proofs.Cross.{nonneg-cross}
+use Rattle.floats.proofs.Values.{round-back}
 
 abbrev pub one : Float
 one = fin false 1 (pos 0)
@@ -23,21 +22,15 @@ unfolding fits
 one-fits lib.Ieee.Format.binary32 = tt
 one-fits lib.Ieee.Format.binary64 = tt
 
--- ---- a fraction that is at most (at least) a value that fits rounds to at most (at least) that value
+-- ---- a fraction that is at most a value that fits rounds to at most that value
 pub round-le : (f : Format) (a c m : ℕ) (e : ℤ) → 0 < c → T (fits f (fin false m e)) → a * down e ≤ m * up e * c → T (le (round f false a c) (fin false m e))
 round-le f a c m e C h k = subst (λ (z : Float). T (le (round f false a c) z)) (round-back f false m e h) (round-mono f a c (m * up e) (down e) C (down-pos e) k)
-
-pub round-ge : (f : Format) (a c m : ℕ) (e : ℤ) → 0 < c → T (fits f (fin false m e)) → m * up e * c ≤ a * down e → T (le (fin false m e) (round f false a c))
-round-ge f a c m e C h k = subst (λ (z : Float). T (le z (round f false a c))) (round-back f false m e h) (round-mono f (m * up e) (down e) a c (down-pos e) C k)
 
 -- ---- finite, and not negative (-0 is left out)
 abbrev pub magnitude : Float → Bool
 magnitude nan = false
 magnitude (inf s) = false
 magnitude (fin s m e) = not s
-
-mag-cross : (m : ℕ) (e : ℤ) (n : ℕ) (d : ℤ) → T (le (fin false m e) (fin false n d)) → m * up e * down d ≤ n * up d * down e
-mag-cross m e n d h = omega (arith, le→cross (fin false m e) (fin false n d) tt tt h)
 
 -- ---- quotients
 div-is : (f : Format) (m : ℕ) (e : ℤ) (n : ℕ) (d : ℤ) → T (ltb 0 n) → div f (fin false m e) (fin false n d) ≡ round f false (m * up e * down d) (n * up d * down e)
@@ -74,7 +67,7 @@ div-mono f (fin false m e) (fin false m' e') (fin false n d) (fin false n' d') p
     subst (λ (z : Float). T (le z (div f (fin false m' e') (fin false n' d')))) (sym (div-is f m e n d q))
     (subst (λ (z : Float). T (le (round f false (m * up e * down d) (n * up d * down e)) z)) (sym (div-is f m' e' n' d' q'))
     (round-mono f (m * up e * down d) (n * up d * down e) (m' * up e' * down d') (n' * up d' * down e') (mul-pos (mul-pos (ltb→lt 0 n q) (up-pos d)) (down-pos e)) (mul-pos (mul-pos (ltb→lt 0 n' q') (up-pos d')) (down-pos e'))
-    (quotients (m * up e) (down e) (m' * up e') (down e') (n * up d) (down d) (n' * up d') (down d') (mag-cross m e m' e' h) (mag-cross n' d' n d k))))
+    (quotients (m * up e) (down e) (m' * up e') (down e') (n * up d) (down d) (n' * up d') (down d') (nonneg-cross m e m' e' h) (nonneg-cross n' d' n d k))))
 
 pub div-le-one : (f : Format) (x y : Float) → T (magnitude x) → T (positive y) → T (le x y) → T (le (div f x y) one)
 div-le-one f nan y p q h = absurd p
@@ -86,7 +79,7 @@ div-le-one f (fin false m e) (fin true n d) p q h = absurd q
 div-le-one f (fin false m e) (fin false n d) p q h =
     subst (λ (z : Float). T (le z one)) (sym (div-is f m e n d q))
     (round-le f (m * up e * down d) (n * up d * down e) 1 (pos 0) (mul-pos (mul-pos (ltb→lt 0 n q) (up-pos d)) (down-pos e)) (one-fits f)
-    (le-trans (le-of-eq (mul-one (m * up e * down d))) (le-trans (mag-cross m e n d h) (le-of-eq (sym (one-mul (n * up d * down e)))))))
+    (le-trans (le-of-eq (mul-one (m * up e * down d))) (le-trans (nonneg-cross m e n d h) (le-of-eq (sym (one-mul (n * up d * down e)))))))
 
 -- ---- products
 mul-is : (f : Format) (m : ℕ) (e : ℤ) (n : ℕ) (d : ℤ) → mul f (fin false m e) (fin false n d) ≡ round f false (m * up e * (n * up d)) (down e * down d)
@@ -111,7 +104,7 @@ mul-mono-mag f (fin false m e) (fin false m' e') (fin false n d) (fin false n' d
     (subst (λ (z : Float). T (le (round f false (m * up e * (n * up d)) (down e * down d)) z)) (sym (mul-is f m' e' n' d'))
     (round-mono f (m * up e * (n * up d)) (down e * down d) (m' * up e' * (n' * up d')) (down e' * down d') (mul-pos (down-pos e) (down-pos d)) (mul-pos (down-pos e') (down-pos d'))
     (le-trans (le-of-eq (mul-mul-mul-comm (m * up e) (n * up d) (down e') (down d')))
-    (le-trans (mul-le-mul (mag-cross m e m' e' h) (mag-cross n d n' d' k)) (le-of-eq (mul-mul-mul-comm (m' * up e') (down e) (n' * up d') (down d)))))))
+    (le-trans (mul-le-mul (nonneg-cross m e m' e' h) (nonneg-cross n d n' d' k)) (le-of-eq (mul-mul-mul-comm (m' * up e') (down e) (n' * up d') (down d)))))))
 
 -- x times s ≤ 1 is no more than x
 pub mul-shrinks : (f : Format) (x s : Float) → T (magnitude x) → T (magnitude s) → T (fits f x) → T (le s one) → T (le (mul f x s) x)
@@ -128,37 +121,4 @@ mul-shrinks f (fin false m e) (fin false n d) p q w h =
     (mul-le-mul (le-of-eq refl) (le-trans (le-of-eq (mul-comm (n * up d) (down e))) (mul-le-mul (le-of-eq refl) (small n d h))))))
   where
     small : (n : ℕ) (d : ℤ) → T (le (fin false n d) one) → n * up d ≤ down d
-    small n d h = omega (arith, mag-cross n d 1 (pos 0) h)
-
--- ---- two values that fit, each at most the other, are the same, or both are zeros
-no-part : (a b c : ℕ) → 0 < c → a * c + b ≤ 0 → a ≡ 0
-no-part a b c C h = elim (eq-zero-or-pos a) [ inl z ↦ z | inr p ↦ absurd (none (a * c) b (mul-pos p C) h) ]
-  where
-    none : (x b : ℕ) → 0 < x → x + b ≤ 0 → ⊥
-    none x b p h = omega arith
-
-same-fin : (f : Format) (s : Bool) (m : ℕ) (e : ℤ) (n : ℕ) (d : ℤ) → T (fits f (fin s m e)) → T (fits f (fin s n d)) → m * up e * down d ≡ n * up d * down e → fin s m e ≡ fin s n d
-same-fin f s m e n d p q h = value-unique f (fin s m e) (fin s n d) s (n * up d) (down d) p q (down-pos d) (refl, h) (refl, refl)
-
-pub le-antisymm-f : (f : Format) (x y : Float) → T (fits f x) → T (fits f y) → T (le x y) → T (le y x) → (x ≡ y) ⊎ ((num x ≡ 0) × (num y ≡ 0))
-le-antisymm-f f nan y p q h k = unfold le in absurd h
-le-antisymm-f f (inf s) nan p q h k = unfold le in absurd h
-le-antisymm-f f (inf true) (inf true) p q h k = inl refl
-le-antisymm-f f (inf true) (inf false) p q h k = unfold le in absurd k
-le-antisymm-f f (inf false) (inf true) p q h k = unfold le in absurd h
-le-antisymm-f f (inf false) (inf false) p q h k = inl refl
-le-antisymm-f f (inf true) (fin t n d) p q h k = unfold le in absurd k
-le-antisymm-f f (inf false) (fin t n d) p q h k = unfold le in absurd h
-le-antisymm-f f (fin s m e) nan p q h k = unfold le in absurd h
-le-antisymm-f f (fin s m e) (inf true) p q h k = unfold le in absurd h
-le-antisymm-f f (fin s m e) (inf false) p q h k = unfold le in absurd k
-le-antisymm-f f (fin true m e) (fin true n d) p q h k =
-    inl (same-fin f true m e n d p q (omega (arith, le→cross (fin true m e) (fin true n d) tt tt h, le→cross (fin true n d) (fin true m e) tt tt k)))
-le-antisymm-f f (fin false m e) (fin false n d) p q h k =
-    inl (same-fin f false m e n d p q (omega (arith, le→cross (fin false m e) (fin false n d) tt tt h, le→cross (fin false n d) (fin false m e) tt tt k)))
-le-antisymm-f f (fin false m e) (fin true n d) p q h k =
-    let g = le→cross (fin false m e) (fin true n d) tt tt h in
-    inr (no-part (m * up e) (n * up d * down e) (down d) (down-pos d) (omega arith), no-part (n * up d) (m * up e * down d) (down e) (down-pos e) (omega arith))
-le-antisymm-f f (fin true m e) (fin false n d) p q h k =
-    let g = le→cross (fin false n d) (fin true m e) tt tt k in
-    inr (no-part (m * up e) (n * up d * down e) (down d) (down-pos d) (omega arith), no-part (n * up d) (m * up e * down d) (down e) (down-pos e) (omega arith))
+    small n d h = omega (arith, nonneg-cross n d 1 (pos 0) h)

@@ -1,7 +1,7 @@
 -- What the tests of the small functions find: a NaN, a finite value, a zero, a sign. Assumes nothing.
 use mathlib.Core.Path.{_≡_, refl, sym, ap, _∙_, subst}
 use Prim.Native.Nat.{ℕ, zero, suc, _+_, _*_, _^_, _<_}
-use native.Mathlib.Nat.{mul-pos, pow-succ'}
+use native.Mathlib.Nat.{zero-lt-suc, mul-pos, pow-succ'}
 use native.Mathlib.Omega.{arith}
 use mathlib.Core.Bool.{true, false, not, _&&_}
 use lib.IntN.{ℤ, pos, negsuc}
@@ -33,9 +33,6 @@ finite-is (inf true) = refl
 finite-is (fin s m e) = refl
 
 -- ---- the magnitude, by the tests `x < 0.0` and `x == 0.0`
-below-none : (a : ℕ) → T (ltb 0 (a + 0 * 1)) → 0 < a
-below-none a t = omega (arith, ltb→lt)
-
 pub abs-below : (x : Float) → lt x zero32 ≡ true → neg x ≡ absOf x
 unfolding lt neg absOf
 abs-below nan h = absurd (of-taken h)
@@ -64,13 +61,10 @@ unfolding eq absOf fits
 abs-zero nan f h = absurd (of-taken h)
 abs-zero (inf s) f h = absurd (of-taken h)
 abs-zero (fin s zero e) f h = ap (λ (d : ℤ). fin false 0 d) (sym (zero-at e f))
-abs-zero (fin s (suc m) e) f h = absurd (none (suc m * up e) (down e) (mul-pos (suc-pos m) (up-pos e)) (eqb→eq (suc m * up e * 1) (0 * 1 * down e) (and-l (eqb (suc m * up e * 1) (0 * 1 * down e)) _ (of-taken h))))
+abs-zero (fin s (suc m) e) f h = absurd (none (suc m * up e) (down e) (mul-pos (zero-lt-suc m) (up-pos e)) (eqb→eq (suc m * up e * 1) (0 * 1 * down e) (and-l (eqb (suc m * up e * 1) (0 * 1 * down e)) _ (of-taken h))))
   where
     none : (a d : ℕ) → 0 < a → a * 1 ≡ 0 * 1 * d → ⊥
     none a d p q = omega arith
-
-    suc-pos : (m : ℕ) → 0 < suc m
-    suc-pos m = omega arith
 
 pub abs-above : (x : Float) → lt x zero32 ≡ false → eq x zero32 ≡ false → x ≡ absOf x
 unfolding lt eq absOf
@@ -88,10 +82,7 @@ abs-above (fin true zero e) h k = absurd (T-not (eqb (0 * up e * 1) (0 * 1 * dow
 
         none : (d : ℕ) → 0 * 1 * d ≡ 0
         none d = omega arith
-abs-above (fin true (suc m) e) h k = absurd (some (suc m * up e) (down e) (mul-pos (suc-pos m) (up-pos e)) (of-left h))
+abs-above (fin true (suc m) e) h k = absurd (some (suc m * up e) (down e) (mul-pos (zero-lt-suc m) (up-pos e)) (of-left h))
   where
     some : (a d : ℕ) → 0 < a → T (not (ltb 0 (a * 1 + 0 * 1 * d))) → ⊥
     some a d p t = T-not (ltb 0 (a * 1 + 0 * 1 * d)) t (lib.Dec.lt→ltb 0 (a * 1 + 0 * 1 * d) (omega arith))
-
-    suc-pos : (m : ℕ) → 0 < suc m
-    suc-pos m = omega arith

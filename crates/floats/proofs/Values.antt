@@ -22,12 +22,6 @@ rescale nan s a c k h = absurd h
 rescale (inf t) s a c k h = absurd h
 rescale (fin t m e) s a c k h = (h .0, sym (mul-assoc (m * up e) c k) ∙ ap (λ (z : ℕ). z * k) (h .1) ∙ mul-right-comm a (down e) k)
 
--- the same value, in units k times larger
-pub unscale : (x : Float) (s : Bool) (a c k : ℕ) → 0 < k → HasValue x s (a * k) (c * k) → HasValue x s a c
-unscale nan s a c k K h = absurd h
-unscale (inf t) s a c k K h = absurd h
-unscale (fin t m e) s a c k K h = (h .0, eq-of-mul-eq-mul-right k K _ _ (mul-assoc (m * up e) c k ∙ h .1 ∙ mul-right-comm a k (down e)))
-
 -- A format writes each value in one way: two that it holds, of one sign and one size, are equal.
 same-bits : (f : Format) (s : Bool) (a c m n : ℕ) (e d : ℤ) → 0 < c → m * up e * c ≡ a * down e → n * up d * c ≡ a * down d → toBits f (fin s m e) ≡ toBits f (fin s n d)
 unfolding toBits

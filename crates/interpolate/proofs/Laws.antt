@@ -12,6 +12,7 @@ use lib.Ieee.{Float, lt}
 use borrow.Author.Tests.{eqb-true, leb-true, eq-eqb, ne-eqb, ltb-true, le-leb, lt-leb, lt-ltb, le-ltb}
 use Rattle.points.specs.declared.Point3.{Point3}
 use Rattle.floats.specs.Floats.{zero32}
+use Rattle.floats.proofs.Cross.{and-left, and-right, and6}
 use Rattle.delays.specs.declared.Samples.{Samples}
 use Rattle.delays.specs.declared.Seconds.{Seconds}
 use Rattle.delays.specs.declared.Outcome.the-variants.{Exact, Blended}
@@ -83,17 +84,6 @@ unfolding known
 known-within m k h = good-within m (entryOf k) h
 
 -- ---- the six entries
-and-left : (a b : Bool) → (a && b) ≡ true → a ≡ true
-and-left true b e = refl
-and-left false b e = e
-
-and-right : (a b : Bool) → (a && b) ≡ true → b ≡ true
-and-right true b e = e
-and-right false b e = absurd (no e)
-  where
-    no : false ≡ true → ⊥
-    no z = let w : _≡_ {A = ℕ} 0 1 = cc in omega arith
-
 pub record Neighbors-known (m : ℕ) (s : Neighbors) : Type 0 where
   pub a-known : known m (s .«phi_plus») ≡ true
   pub b-known : known m (s .«phi_minus») ≡ true
@@ -105,16 +95,8 @@ pub record Neighbors-known (m : ℕ) (s : Neighbors) : Type 0 where
 pub neighbors-known : (m : ℕ) (s : Neighbors) → allKnown m s ≡ true → Neighbors-known m s
 unfolding allKnown
 neighbors-known m s h =
-    let t = go (known m (s .«phi_plus»)) (known m (s .«phi_minus»)) (known m (s .«theta_plus»)) (known m (s .«theta_minus»)) (known m (s .«radius_plus»)) (known m (s .«radius_minus»)) h in
+    let t = and6 (known m (s .«phi_plus»)) (known m (s .«phi_minus»)) (known m (s .«theta_plus»)) (known m (s .«theta_minus»)) (known m (s .«radius_plus»)) (known m (s .«radius_minus»)) h in
     record { a-known = t .0; b-known = t .1; c-known = t .2; d-known = t .3; e-known = t .4; f-known = t .5 }
-  where
-    go : (a b c d e f : Bool) → (a && b && c && d && e && f) ≡ true → (a ≡ true) × (b ≡ true) × (c ≡ true) × (d ≡ true) × (e ≡ true) × (f ≡ true)
-    go a b c d e f h =
-        let h5 = and-left (a && b && c && d && e) f h in
-        let h4 = and-left (a && b && c && d) e h5 in
-        let h3 = and-left (a && b && c) d h4 in
-        let h2 = and-left (a && b) c h3 in
-        (and-left a b h2, and-right a b h2, and-right (a && b) c h3, and-right (a && b && c) d h4, and-right (a && b && c && d) e h5, and-right (a && b && c && d && e) f h)
 
 -- where a pair has a bad entry, and where two have none
 module _ (m : ℕ) (s : Neighbors) where
@@ -187,10 +169,6 @@ module _ (p : Points) (f : ℕ → Float) (x : Float) (ex : x ≡ f (p .a .numbe
           → plus (plus (plus (plus zero32 (p .a .weight) x) (p .b .weight) y) (p .c .weight) z) (p .d .weight) v ≡ sums f zero32 (listOf p)
       unfolding sums
       weighed4 v ev h = rw (ex, ey, ez, ev) (sums-at p f 4 h)
-
--- the last way of a match on the count
-pub four-left : (k : ℕ) → (k ≡ 1 → ⊥) → (k ≡ 2 → ⊥) → (k ≡ 3 → ⊥) → 1 ≤ k → k ≤ 4 → k ≡ 4
-four-left k a b c h g = omega arith
 
 pub total-at : (p : Points) (k : ℕ) → p .count ≡ k → totalOf (take k (fours p)) ≡ totalOf (listOf p)
 unfolding listOf
@@ -340,9 +318,6 @@ module _ (delays : List Float) (m r e : ℕ) (s : Stride) (q : s ≡ strideOf (l
 -- the three coordinates and the six entries of a measurement are there
 pub three-in : (k m len : ℕ) → k < m → 3 * m ≤ len → 3 * k + 2 < len
 three-in k m len h g = omega arith
-
-pub six-in : (k m len : ℕ) → k < m → 6 * m ≤ len → 6 * k + 6 ≤ len
-six-in k m len h g = omega arith
 
 pub times : (m r : ℕ) → m ≤ 16384 → r ≤ 8 → m * r ≤ 131072
 times m r hm hr = mul-le-mul {n₂ = 16384} {m₂ = 8} hm hr

@@ -1,15 +1,19 @@
 -- A line with its key, and one without. Assumes nothing.
-use Prim.Native.Nat.{ℕ, _-_}
+use Prim.Native.Nat.{ℕ, _+_, _-_}
 use mathlib.Core.Path.{_≡_, ap, _∙_}
-use mathlib.Core.Bool.{true, false}
+use mathlib.Core.Bool.{Bool, true, false, _&&_}
 use mathlib.Core.List.{List}
 use native.Mathlib.Omega.{arith}
+use lib.Dec.{leb}
+use lib.Ieee.{Float}
 use lib.ListN.{length, take, drop, length-drop}
 use lib.Seq.{take-all}
 use Rattle.text.specs.declared.Num.{Num}
 use Rattle.text.specs.declared.Num.the-variants.{Bad}
 use Rattle.text.specs.Number.{begins}
-use Rattle.keys.specs.Keys.{behind}
+use Rattle.text.specs.Values.{valuesOk, valueAt}
+use Rattle.keys.specs.declared.Place.the-variants.{At}
+use Rattle.keys.specs.Keys.{behind, valuesFit, pointOf, pointIn}
 
 -- what stands from place k on, as the code takes it
 pub tail : (k : ℕ) (l : List ℕ) → take (length l - k) (drop k l) ≡ drop k l
@@ -22,3 +26,14 @@ has-key key l read r b e = rw b (e ∙ ap read (tail (length key) l))
 pub no-key : (key l : List ℕ) (read : List ℕ → Num) → begins key l ≡ false → Bad ≡ behind key read l
 unfolding behind
 no-key key l read b = rw b
+
+pub values-fit : (key l : List ℕ) (n at : ℕ) (d : List Float) (r : Bool) → begins key l ≡ true
+    → r ≡ (valuesOk (take (length l - length key) (drop (length key) l)) n && leb (at + n) (length d)) → r ≡ valuesFit key n at l d
+unfolding valuesFit
+values-fit key l n at d r b e =
+    rw b (e ∙ ap (λ (s : List ℕ). valuesOk s n && leb (at + n) (length d)) (tail (length key) l))
+
+pub point-in : (s : List ℕ) (x y z : Float) → valuesOk s 3 ≡ true → x ≡ valueAt s 0 → y ≡ valueAt s 1 → z ≡ valueAt s 2
+    → At (record { x = x; y = y; z = z }) ≡ pointIn s
+unfolding pointIn pointOf
+point-in s x y z ok ex ey ez = rw ok (cc)

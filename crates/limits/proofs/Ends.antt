@@ -4,10 +4,9 @@ use mathlib.Core.Bool.{true, false}
 use lib.Dec.{T}
 use lib.Ieee.{Float, nan, inf, fin, binary32, round, ofBits, neg, le, lt, eq}
 use lib.Ieee.Scale.{finite}
-use Rattle.floats.proofs.Cross.{of-taken}
+use Rattle.floats.proofs.Cross.{of-taken, and-left, and-right}
 use Rattle.floats.proofs.Preorder.{le-nan}
 use Rattle.limits.specs.Allowed.{nearest, between, within, cartesianOk, angleOk, radiusOk, angleStepOk, radiusStepOk, rateOk}
-use Rattle.limits.proofs.Lines.{and-left, and-right}
 
 pub tenth : nearest 1 10 ≡ ofBits binary32 0x3dcccccd
 unfolding round ofBits

@@ -1,7 +1,7 @@
 -- The verdict over a list of lines: the first that is met, and Fine exactly where none is. Assumes nothing.
 use Prim.Native.Nat.{ℕ}
 use mathlib.Core.Path.{_≡_, refl, sym, _∙_}
-use mathlib.Core.Bool.{Bool, true, false, not, _&&_}
+use mathlib.Core.Bool.{Bool, true, false, not}
 use mathlib.Core.List.{List, [], _∷_, _++_}
 use native.Mathlib.Omega.{arith}
 use borrow.Author.Tests.{not-false}
@@ -91,14 +91,3 @@ as-met e f = rw (← e) f
 -- a test that the code negates and that held
 pub held : {ok t : Bool} → t ≡ ok → not t ≡ false → ok ≡ true
 held {ok} {t} e f = sym e ∙ not-false t f
-
-pub and-left : (a b : Bool) → (a && b) ≡ true → a ≡ true
-and-left true b e = refl
-and-left false b e = e
-
-pub and-right : (a b : Bool) → (a && b) ≡ true → b ≡ true
-and-right true b e = e
-and-right false b e = absurd (no e)
-  where
-    no : false ≡ true → ⊥
-    no z = let w : _≡_ {A = ℕ} 0 1 = cc in omega arith

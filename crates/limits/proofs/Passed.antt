@@ -11,13 +11,14 @@ use lib.Ieee.{Float, nan}
 use lib.Ieee.Scale.{finite}
 use borrow.Author.Tests.{leb-true, leb-false, ltb-false, eqb-true, not-false}
 use Rattle.points.specs.declared.Point3.{Point3}
+use Rattle.floats.proofs.Cross.{and-left, and-right, and6}
 use Rattle.limits.specs.declared.Sizes.{Sizes}
 use Rattle.limits.specs.declared.TreeLengths.{TreeLengths}
 use Rattle.limits.specs.declared.Lengths.{Lengths}
 use Rattle.limits.specs.declared.Verdict.the-variants.{Fine}
 use Rattle.limits.specs.Allowed.{sizesOk, treeFits, responsesFit, neighboursFit, plainFits, blendFits, loadFits, kindOk, positionOk, firstBad, angleStepOk, radiusStepOk, rateOk}
 use Rattle.limits.specs.Refusals.{verdictOf, queryLines, loadLines, findLines, filterLines, numberLines, ratedLines, rateLines, valueLines, triplets}
-use Rattle.limits.proofs.Lines.{passed, and-left, and-right}
+use Rattle.limits.proofs.Lines.{passed}
 use Rattle.limits.proofs.Values.{allowed-before}
 
 -- ---- sizes and lists
@@ -29,16 +30,6 @@ pub record Sized (s : Sizes) : Type 0 where
   pub ears : 2 ≤ s .r
   pub receivers : s .r ≤ 8
   pub taps : s .n ≤ 8192
-
--- six tests in a row, taken apart
-and6 : (a b c d e f : Bool) → (a && b && c && d && e && f) ≡ true
-    → (a ≡ true) × (b ≡ true) × (c ≡ true) × (d ≡ true) × (e ≡ true) × (f ≡ true)
-and6 a b c d e f h =
-    let h5 = and-left (a && b && c && d && e) f h in
-    let h4 = and-left (a && b && c && d) e h5 in
-    let h3 = and-left (a && b && c) d h4 in
-    let h2 = and-left (a && b) c h3 in
-    (and-left a b h2, and-right a b h2, and-right (a && b) c h3, and-right (a && b && c) d h4, and-right (a && b && c && d) e h5, and-right (a && b && c && d && e) f h)
 
 pub sized : (s : Sizes) → sizesOk s ≡ true → Sized s
 unfolding sizesOk

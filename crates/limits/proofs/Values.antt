@@ -1,5 +1,5 @@
 -- The search for the first position value that is not allowed: its steps, and what it finds. Assumes nothing.
-use Prim.Native.Nat.{ℕ, zero, suc, _+_, _-_, _^_, _≤_, _<_}
+use Prim.Native.Nat.{ℕ, zero, suc, _+_, _≤_, _<_}
 use mathlib.Core.Path.{_≡_, refl, sym, ap, _∙_}
 use mathlib.Core.Bool.{Bool, true, false}
 use mathlib.Core.List.{List, [], _∷_}
@@ -9,8 +9,6 @@ use borrow.Author.Tests.{ne-eqb, lt-ltb, le-ltb}
 use lib.ListN.{length, take, drop, getD, drop-of-length-le}
 use lib.Seq.{drop-cons, length-take-le, getD-take}
 use lib.Ieee.{Float, nan}
-use mir.Syntax.{w64}
-use mir.Val.{Fits}
 use Rattle.limits.specs.declared.Verdict.the-variants.{Refused}
 use Rattle.limits.specs.Allowed.{badFrom, firstBad, kindOk, positionOk}
 use Rattle.limits.specs.Refusals.{Check, verdictOf, badValue}
@@ -118,16 +116,3 @@ module _ (ok : ℕ → Float → Bool) (xs : List Float) (n : ℕ) where
       let b = firstBad ok xs n in
       let z : 0 + b ≡ b = omega arith in
       rw z at rw (getD-take n xs b nan h) at (from-there ok 0 (take n xs) b (omega arith) (omega (arith, length-take-le n xs room)))
-
--- ---- the loop's count, one further
-pub next-fits : (i n : ℕ) → i < n → n < 2 ^ 64 → Fits w64 (i + 1)
-next-fits i n h g = record { fits = omega arith }
-
-pub next-in : (i n : ℕ) → i < n → i + 1 ≤ n
-next-in i n h = omega arith
-
-pub next-less : (i n : ℕ) → i < n → n - (i + 1) < n - i
-next-less i n h = omega arith
-
-pub at-end : (i n : ℕ) → i ≤ n → n ≤ i → i ≡ n
-at-end i n h g = omega arith

@@ -11,11 +11,11 @@
 // proofs/Ends.antt that allowed values are finite and what f32 the step ranges end at.
 use points::Point3;
 ghost use mathlib.Core.Path.{_≡_};
-ghost use mathlib.Core.Bool.{true, _&&_};
+ghost use mathlib.Core.Bool.{true};
 ghost use mathlib.Core.List.{[], _∷_};
 ghost use Prim.Native.Nat.{_≤_};
 ghost use lib.ListN.{length};
-ghost use Rattle.limits.specs.Allowed.{between, sizesOk, treeFits, responsesFit, neighboursFit, plainFits, blendFits, loadFits, kindOk, positionOk, firstBad, angleStepOk, radiusStepOk, rateOk};
+ghost use Rattle.limits.specs.Allowed.{sizesOk, treeFits, responsesFit, neighboursFit, plainFits, blendFits, loadFits, kindOk, positionOk, firstBad, angleStepOk, radiusStepOk, rateOk};
 ghost use Rattle.limits.specs.Refusals.{verdictOf, reasonOf, placeOf, badRate, badNumber, queryLines, contentLines, loadLines, findLines, filterLines, numberLines, ratedLines, rateLines, valueLines};
 
 // M measurements, C coordinates, R receivers, N taps. Hosts hand it over as it stands, as they do the box and the lookup.

@@ -1,4 +1,4 @@
--- What loops and callers cite of `over` and `upto`. Assumes nothing.
+-- What loops and callers cite of `over` and `upto`, and what holds of each of two lists put together. Assumes nothing.
 use mathlib.Core.Path.{_≡_, refl, sym, ap, _∙_}
 use mathlib.Core.List.{List, [], _∷_, _++_}
 use Prim.Native.Nat.{ℕ, zero, suc, _+_, _≤_, _<_}
@@ -7,6 +7,7 @@ use native.Mathlib.Numerals.{add-one}
 use native.Mathlib.Omega.{arith}
 use lib.ListN.{length, take, drop, getD, set, replicate, length-append, length-drop, length-replicate}
 use lib.Seq.{take-suc, drop-cons, take-at, drop-at, set-at, length-take-le, append-snoc}
+use Rattle.lists.specs.Each.{Each}
 use Rattle.lists.specs.Over.{over, upto}
 
 module _ {A : Type 0} where
@@ -66,3 +67,7 @@ module _ {A : Type 0} where
   upto-more f n d h =
       over-at (upto f n) d n (f n) (length-upto f n) h
       ∙ ap (λ (l : List A). over l d) (ap (λ (k : ℕ). upto f k) (sym (add-one n)))
+
+  pub each-append : (P : A → Type 0) (k l : List A) → Each P k → Each P l → Each P (k ++ l)
+  each-append P [] l a b = b
+  each-append P (x ∷ k) l a b = (a .0, each-append P k l (a .1) b)

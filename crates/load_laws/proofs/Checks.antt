@@ -6,6 +6,7 @@ use native.Mathlib.Omega.{arith}
 use lib.Dec.{T, eqb}
 use lib.ListN.{length}
 use lib.Ieee.Scale.{finite}
+use Rattle.floats.proofs.Cross.{and-left, and-right}
 use borrow.Author.Tests.{not-false, lt-leb}
 use Rattle.lists.specs.Over.{over, upto}
 use Rattle.lists.proofs.Laws.{length-over, length-upto}
@@ -14,7 +15,7 @@ use Rattle.points.specs.Points.{Finite}
 use Rattle.limits.specs.declared.Verdict.the-variants.{Fine}
 use Rattle.limits.specs.Allowed.{sizesOk, treeFits, responsesFit, neighboursFit, plainFits, blendFits, loadFits}
 use Rattle.limits.specs.Refusals.{verdictOf, queryLines, findLines, filterLines, numberLines, ratedLines, rateLines}
-use Rattle.limits.proofs.Lines.{passed, Unmet, done, more, unmet→fine, and-left, and-right}
+use Rattle.limits.proofs.Lines.{passed, Unmet, done, more, unmet→fine}
 use Rattle.lookup.specs.Build.{linked}
 use Rattle.lookup.specs.Lookup.{treeLengths}
 use Rattle.lookup.proofs.Links.{linked-left, linked-right}
@@ -24,10 +25,6 @@ use Rattle.loads.proofs.Ways.{as-long}
 use Rattle.load_laws.specs.Load.{Given, judged}
 use Rattle.load_laws.proofs.Loaded as after
 use Rattle.load_laws.proofs.Loaded.{went}
-
--- a test that holds is no line that is met
-unmet : {b : Bool} → b ≡ true → not b ≡ false
-unmet e = ap not e
 
 unmet-finite : (b : Bool) → T b → not b ≡ false
 unmet-finite true h = refl
@@ -96,22 +93,22 @@ module _ (g : Given) (fine : judged g ≡ Fine) where
   -- ---- THE CALLS ARE NOT REFUSED
 
   pub find-fine : (q : Point3) → Finite q → verdictOf (findLines (g .sizes) (treeLengths (w .cartesian) (w .left) (w .right)) q) ≡ Fine
-  find-fine q f = unmet→fine _ (more sizes-unmet (more (unmet tree-fits) (query-unmet q f)))
+  find-fine q f = unmet→fine _ (more sizes-unmet (more (ap not tree-fits) (query-unmet q f)))
 
   pub filter-fine : (q : Point3) → Finite q → verdictOf (filterLines (g .sizes) (blendFits (g .sizes) (lengthsOf (w .cartesian) (w .left) (w .right) (g .responses) (w .neighbours))) (g .rate) q) ≡ Fine
-  filter-fine q f = unmet→fine _ (more sizes-unmet (more (unmet blend-fits) (more (unmet (went g fine .rated)) (query-unmet q f))))
+  filter-fine q f = unmet→fine _ (more sizes-unmet (more (ap not blend-fits) (more (ap not (went g fine .rated)) (query-unmet q f))))
 
   pub plain-fine : (q : Point3) → Finite q → verdictOf (filterLines (g .sizes) (plainFits (g .sizes) (treeLengths (w .cartesian) (w .left) (w .right)) (length (g .responses))) (g .rate) q) ≡ Fine
-  plain-fine q f = unmet→fine _ (more sizes-unmet (more (unmet plain-fits) (more (unmet (went g fine .rated)) (query-unmet q f))))
+  plain-fine q f = unmet→fine _ (more sizes-unmet (more (ap not plain-fits) (more (ap not (went g fine .rated)) (query-unmet q f))))
 
   pub number-fine : (k : ℕ) → k < g .sizes .m → verdictOf (ratedLines (g .sizes) (responsesFit (g .sizes) (length (g .responses))) (g .rate) k) ≡ Fine
-  number-fine k h = unmet→fine _ (more sizes-unmet (more (unmet responses-fit) (more (unmet (went g fine .rated)) (more (lt-leb (g .sizes .m) k h) done))))
+  number-fine k h = unmet→fine _ (more sizes-unmet (more (ap not responses-fit) (more (ap not (went g fine .rated)) (more (lt-leb (g .sizes .m) k h) done))))
 
   pub response-fine : (k : ℕ) → k < g .sizes .m → verdictOf (numberLines (g .sizes) (responsesFit (g .sizes) (length (g .responses))) k) ≡ Fine
-  response-fine k h = unmet→fine _ (more sizes-unmet (more (unmet responses-fit) (more (lt-leb (g .sizes .m) k h) done)))
+  response-fine k h = unmet→fine _ (more sizes-unmet (more (ap not responses-fit) (more (lt-leb (g .sizes .m) k h) done)))
 
   pub around-fine : (k : ℕ) → k < g .sizes .m → verdictOf (numberLines (g .sizes) (neighboursFit (g .sizes) (length (w .neighbours))) k) ≡ Fine
-  around-fine k h = unmet→fine _ (more sizes-unmet (more (unmet near-fits) (more (lt-leb (g .sizes .m) k h) done)))
+  around-fine k h = unmet→fine _ (more sizes-unmet (more (ap not near-fits) (more (lt-leb (g .sizes .m) k h) done)))
 
   pub rate-fine : verdictOf (rateLines (g .rate)) ≡ Fine
-  rate-fine = unmet→fine _ (more (unmet (went g fine .rated)) done)
+  rate-fine = unmet→fine _ (more (ap not (went g fine .rated)) done)

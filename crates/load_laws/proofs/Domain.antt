@@ -1,6 +1,6 @@
 -- Every input in document 01's domain is accepted, and so answered as the source answers. Assumes nothing.
-use mathlib.Core.Path.{_≡_, refl, ap, _∙_}
-use mathlib.Core.Bool.{Bool, true, false, not, _&&_}
+use mathlib.Core.Path.{_≡_, refl, ap}
+use mathlib.Core.Bool.{Bool, true, false, not}
 use mathlib.Core.List.{List}
 use Prim.Native.Nat.{ℕ, zero, suc, _*_, _%_, _≤_, _<_}
 use native.Mathlib.Omega.{arith}
@@ -8,7 +8,8 @@ use lib.Dec.{eqb, ltb}
 use lib.ListN.{length, getD}
 use lib.Ieee.{Float, nan, le}
 use borrow.Author.Tests.{ltb-true, eqb-true, eqb-false, le-leb, eq-eqb}
-use Rattle.floats.proofs.Cross.{is-true}
+use lib.Ieee.Bits.{is-true}
+use Rattle.floats.proofs.Cross.{both}
 use Rattle.limits.specs.declared.Verdict.the-variants.{Fine}
 use Rattle.limits.specs.Allowed.{between, within, sizesOk, treeFits, responsesFit, neighboursFit, plainFits, blendFits, loadFits, cartesianOk, angleOk, radiusOk, positionOk, firstBad, angleStepOk, radiusStepOk, rateOk}
 use Rattle.limits.proofs.Lines.{done, more, unmet→fine}
@@ -21,9 +22,6 @@ use Rattle.load_laws.specs.Domain.{Between, Position, Domain}
 use Rattle.load_laws.proofs.Load.{accepted, from-load}
 
 -- ---- tests
-
-both : {a b : Bool} → a ≡ true → b ≡ true → (a && b) ≡ true
-both {a} {b} p q = ap (λ (c : Bool). c && b) p ∙ q
 
 between-true : (lo hi x : Float) → Between lo hi x → between lo hi x ≡ true
 unfolding between
@@ -53,10 +51,6 @@ values-allowed kind xs n known room allowed = go (ltb bad n) refl
     go false e = refl
     go true e = let l = ltb-true bad n e in absurd (no (position-true kind bad (getD xs bad nan) known (allowed bad l)) (bad-there (positionOk kind) xs n room l))
 
--- a test that holds is no line that is met
-unmet : {b : Bool} → b ≡ true → not b ≡ false
-unmet e = ap not e
-
 module _ (g : Given) (D : Domain g) where
   sizes-ok : sizesOk (g .sizes) ≡ true
   unfolding sizesOk
@@ -75,8 +69,8 @@ module _ (g : Given) (D : Domain g) where
 
   fine : judged g ≡ Fine
   fine =
-      unmet→fine _ (more (unmet (known (g .kind) (D .kind))) (more (unmet sizes-ok) (more (unmet lists-fit) (more values-ok
-      (more (unmet angle-ok) (more (unmet radius-ok) (more (unmet rate-ok) done)))))))
+      unmet→fine _ (more (ap not (known (g .kind) (D .kind))) (more (ap not sizes-ok) (more (ap not lists-fit) (more values-ok
+      (more (ap not angle-ok) (more (ap not radius-ok) (more (ap not rate-ok) done)))))))
     where
       angle-ok : angleStepOk (g .angle) ≡ true
       angle-ok = unfold angleStepOk in between-true _ _ (g .angle) (D .angle-step)

@@ -10,7 +10,8 @@ use lib.Dec.{T, lt→ltb, ltb→lt}
 use lib.Ieee.{Float, nan, inf, fin, binary32, up, down, add, mul, neg, round, lt, le, eq, fits, isNan, ofBits}
 use lib.Ieee.Fits.{down-pos, add-fits}
 use lib.Ieee.Scale.{finite}
-use Rattle.floats.specs.Floats.{minOf, maxOf}
+use lib.Ieee.Bits.{is-true}
+use Rattle.floats.specs.Floats.{absOf, minOf, maxOf}
 use Rattle.floats.proofs.Cross.{cross→le}
 use Rattle.floats.proofs.Sign.{nonneg}
 use Rattle.floats.proofs.Ops.{finite-number, sq-nonneg, sq-mono, add-nonneg, add-mono, neg-le}
@@ -24,7 +25,7 @@ use Rattle.limits.specs.Allowed.{nearest, within}
 use Rattle.limits.proofs.Ends.{between-low, between-high}
 use Rattle.lookup.specs.Build.{leastOf, greatestOf, top32, bottom32, lookupOf}
 use Rattle.lookup_laws.specs.Clamp.{Measured, Radii, reach}
-use Rattle.lookup_laws.proofs.Clamp.{bounded, size, size-square, sum, sum-nonneg}
+use Rattle.lookup_laws.proofs.Clamp.{bounded, size-square, sum, sum-nonneg}
 
 -- ---- one measurement
 
@@ -32,10 +33,11 @@ use Rattle.lookup_laws.proofs.Clamp.{bounded, size, size-square, sum, s
 abbrev far : Float
 far = nearest 10001 1
 
-within-size : (c : Float) → within 10001 1 c ≡ true → T (finite c) × T (le (size c) far)
+within-size : (c : Float) → within 10001 1 c ≡ true → T (finite c) × T (le (absOf c) far)
+unfolding absOf
 within-size c e = go c (unfold within in between-low (neg far) far c e) (unfold within in between-high (neg far) far c e)
   where
-    go : (c : Float) → T (le (neg far) c) → T (le c far) → T (finite c) × T (le (size c) far)
+    go : (c : Float) → T (le (neg far) c) → T (le c far) → T (finite c) × T (le (absOf c) far)
     go nan a b = absurd (unfold le lt eq round in b)
     go (inf false) a b = absurd (unfold le lt eq round in b)
     go (inf true) a b = absurd (unfold le lt eq round neg in a)
@@ -46,11 +48,12 @@ abbrev square : Float
 square = mul binary32 far far
 
 square-most : (c : Float) → within 10001 1 c ≡ true → T (le (mul binary32 c c) square)
+unfolding absOf
 square-most c e =
     let z = within-size c e in
-    subst (λ (w : Float). T (le w square)) (size-square c (z .0)) (sq-mono binary32 (size c) far (size-nonneg c (z .0)) (unfold round in tt) (z .1))
+    subst (λ (w : Float). T (le w square)) (size-square c (z .0)) (sq-mono binary32 (absOf c) far (size-nonneg c (z .0)) (unfold round in tt) (z .1))
   where
-    size-nonneg : (c : Float) → T (finite c) → T (nonneg (size c))
+    size-nonneg : (c : Float) → T (finite c) → T (nonneg (absOf c))
     size-nonneg nan f = absurd f
     size-nonneg (inf s) f = absurd f
     size-nonneg (fin s m e) f = tt
@@ -120,13 +123,9 @@ max-nonneg : (a b : Float) → T (nonneg a) → T (nonneg b) → T (nonneg (maxO
 unfolding maxOf
 max-nonneg a b f g = pick (λ (r : Float). T (nonneg r)) (isNan a) (lt a b) b a g f
 
-taken : (b : Bool) → T b → b ≡ true
-taken true t = refl
-taken false t = absurd t
-
 first-least : (r : Float) → Fine r → minOf top32 r ≡ r
 unfolding minOf isNan ofBits
-first-least r f = ap (λ (b : Bool). cond b r top32) (taken (lt r top32) (le-lt-trans r reach top32 (f .1) (unfold lt ofBits in tt)))
+first-least r f = ap (λ (b : Bool). cond b r top32) (is-true (lt r top32) (le-lt-trans r reach top32 (f .1) (unfold lt ofBits in tt)))
 
 first-greatest : (r : Float) → T (nonneg r) → maxOf bottom32 r ≡ r
 unfolding maxOf isNan ofBits
@@ -140,7 +139,7 @@ first-greatest r n = ap (λ (b : Bool). cond b r bottom32) (above r n)
     above (inf true) n = absurd n
     above (inf false) n = unfold lt ofBits in refl
     above (fin true m e) n = absurd n
-    above (fin false m e) n = taken (lt bottom32 (fin false m e)) (unfold lt ofBits in lt→ltb 0 _ (some (16777215 * 2 ^ 104) (down e) (m * up e * 1) (ltb→lt 0 (16777215 * 2 ^ 104) tt) (down-pos e)))
+    above (fin false m e) n = is-true (lt bottom32 (fin false m e)) (unfold lt ofBits in lt→ltb 0 _ (some (16777215 * 2 ^ 104) (down e) (m * up e * 1) (ltb→lt 0 (16777215 * 2 ^ 104) tt) (down-pos e)))
 
 module _ (xs : List Float) where
   abbrev least : ℕ → Float

@@ -3,7 +3,7 @@
 use mathlib.Core.Path.{_≡_, refl, sym, ap, _∙_, subst}
 use mathlib.Core.Bool.{Bool, true, false, cond, _&&_}
 use Prim.Native.Nat.{ℕ, zero, suc, _*_, _%_, _^_, _<_, _≤_}
-use native.Mathlib.Nat.{mul-pos, le-trans, mul-le-mul, le-of-eq, one-mul}
+use native.Mathlib.Nat.{zero-lt-suc, mul-pos, le-trans, mul-le-mul, le-of-eq, one-mul}
 use native.Mathlib.Omega.{arith}
 use lib.Dec.{T, T-not, ltb, leb, eqb, ltb→lt, lt→ltb, leb→le}
 use lib.IntN.{ℤ, pos, negsuc}
@@ -12,7 +12,7 @@ use lib.Ieee.Fits.{and-l, and-r, up-pos, down-pos, add-fits, mul-fits}
 use lib.Ieee.Scale.{finite, round-same}
 use lib.Ieee.Positive.{positive, cross→le}
 use borrow.Author.Tests.{ne-eqb}
-use Rattle.floats.specs.Floats.{zero32}
+use Rattle.floats.specs.Floats.{zero32, absOf}
 use Rattle.floats.proofs.Cross.{of-taken, of-left}
 use Rattle.floats.proofs.Sign.{nonneg, round-neg, round-nonneg, sq-neg}
 use Rattle.floats.proofs.Ops.{finite-number, sq-nonneg, sq-mono, add-nonneg, add-grows, add-grows-r}
@@ -135,11 +135,8 @@ tiny-least (fin false (suc m) e) w p = cross→le tiny (fin false (suc m) e) tt 
         (and-l (eqb (suc m % 2) 1 && ltb (suc m) (2 ^ 24) && leb (down e) (2 ^ 149)) (ltb (suc m * up e) (2 ^ 128 * down e)) w))
 
     smaller : (m u d t : ℕ) → 0 < u → d ≤ t → 1 * 1 * d ≤ suc m * u * t
-    smaller m u d t U h = le-trans (le-of-eq (one-mul-one d)) (le-trans h (le-trans (le-of-eq (sym (one-mul t))) (mul-le-mul (mul-pos (pos-suc m) U) (le-of-eq refl))))
+    smaller m u d t U h = le-trans (le-of-eq (one-mul-one d)) (le-trans h (le-trans (le-of-eq (sym (one-mul t))) (mul-le-mul (mul-pos (zero-lt-suc m) U) (le-of-eq refl))))
       where
-        pos-suc : (m : ℕ) → 0 < suc m
-        pos-suc m = omega arith
-
         one-mul-one : (d : ℕ) → 1 * 1 * d ≡ d
         one-mul-one d = omega arith
 
@@ -190,19 +187,15 @@ root-of (fin false zero e) least w p q a b = absurd (none e (unfold rootOf lt in
     none e t = let h = ltb→lt (0 * 1 * down e) (0 * up e * 1) t in omega arith
 root-of (fin false (suc m) e) least w p q a b = lt→ltb 0 (suc m) (omega arith)
 
--- the size of a finite value
-abbrev pub size : Float → Float
-size nan = nan
-size (inf s) = inf false
-size (fin s m e) = fin false m e
-
-pub size-square : (x : Float) → T (finite x) → mul binary32 (size x) (size x) ≡ mul binary32 x x
+pub size-square : (x : Float) → T (finite x) → mul binary32 (absOf x) (absOf x) ≡ mul binary32 x x
+unfolding absOf
 size-square nan f = absurd f
 size-square (inf s) f = absurd f
 size-square (fin false m e) f = refl
 size-square (fin true m e) f = sym (unfold neg in sq-neg binary32 (fin false m e))
 
-pub size-magnitude : (x : Float) → T (finite x) → T (magnitude (size x))
+pub size-magnitude : (x : Float) → T (finite x) → T (magnitude (absOf x))
+unfolding absOf
 size-magnitude nan f = absurd f
 size-magnitude (inf s) f = absurd f
 size-magnitude (fin s m e) f = tt
@@ -212,15 +205,15 @@ unfolding rootOf mul le lt eq
 root-reach = tt
 
 -- a coordinate whose square is at most that of a radius below 2 ^ 26
-coordinate-bound : (x s least : Float) → T (finite x) → T (fits binary32 s) → T (positive s) → T (le (mul binary32 x x) s) → T (lt (rootOf s) least) → T (le least reach) → T (le (size x) reach)
-coordinate-bound x s least f w p u h l = go (lt reach (size x)) refl
+coordinate-bound : (x s least : Float) → T (finite x) → T (fits binary32 s) → T (positive s) → T (le (mul binary32 x x) s) → T (lt (rootOf s) least) → T (le least reach) → T (le (absOf x) reach)
+coordinate-bound x s least f w p u h l = go (lt reach (absOf x)) refl
   where
-    m : T (magnitude (size x))
+    m : T (magnitude (absOf x))
     m = size-magnitude x f
 
-    clash : T (lt reach (size x)) → ⊥
+    clash : T (lt reach (absOf x)) → ⊥
     clash t =
-        let a = sq-mono binary32 reach (size x) tt (magnitude-nonneg (size x) m) (lt→le reach (size x) t) in
+        let a = sq-mono binary32 reach (absOf x) tt (magnitude-nonneg (absOf x) m) (lt→le reach (absOf x) t) in
         let b = le-trans-f (mul binary32 reach reach) (mul binary32 x x) s (subst (λ (z : Float). T (le (mul binary32 reach reach) z)) (size-square x f) a) u in
         let c = rootOf-mono (mul binary32 reach reach) s (mul-fits binary32 reach reach) w squared-positive p b in
         let d = le-trans-f reach (rootOf (mul binary32 reach reach)) (rootOf s) root-reach c in
@@ -229,9 +222,9 @@ coordinate-bound x s least f w p u h l = go (lt reach (size x)) refl
         squared-positive : T (positive (mul binary32 reach reach))
         squared-positive = unfold mul in tt
 
-    go : (b : Bool) → lt reach (size x) ≡ b → T (le (size x) reach)
+    go : (b : Bool) → lt reach (absOf x) ≡ b → T (le (absOf x) reach)
     go true e = absurd (clash (of-taken e))
-    go false e = not-lt→le reach (size x) (finite-number reach tt) (finite-number (size x) (magnitude-finite (size x) m)) (of-left e)
+    go false e = not-lt→le reach (absOf x) (finite-number reach tt) (finite-number (absOf x) (magnitude-finite (absOf x) m)) (of-left e)
 
 -- the largest scale: 2 ^ 26 by the root of the smallest value
 abbrev steep : Float
@@ -263,13 +256,14 @@ module _ (s least : Float) (w : T (fits binary32 s)) (p : T (positive s)) (q : T
   k-magnitude : T (magnitude k)
   k-magnitude = bounded k steep (div-nonneg least (rootOf s) q (rootOf-positive s w p)) steep-finite k-most
 
-  grown : (x : Float) → T (finite x) → T (le (mul binary32 x x) s) → T (finite (mul binary32 (size x) k))
+  grown : (x : Float) → T (finite x) → T (le (mul binary32 x x) s) → T (finite (mul binary32 (absOf x) k))
   grown x f u =
       let m = size-magnitude x f in
-      let b = mul-mono-mag binary32 (size x) reach k steep m tt k-magnitude steep-magnitude (coordinate-bound x s least f w p u h l) k-most in
-      magnitude-finite (mul binary32 (size x) k) (bounded (mul binary32 (size x) k) (mul binary32 reach steep) (mul-nonneg (size x) k m k-magnitude) farthest b)
+      let b = mul-mono-mag binary32 (absOf x) reach k steep m tt k-magnitude steep-magnitude (coordinate-bound x s least f w p u h l) k-most in
+      magnitude-finite (mul binary32 (absOf x) k) (bounded (mul binary32 (absOf x) k) (mul binary32 reach steep) (mul-nonneg (absOf x) k m k-magnitude) farthest b)
 
   stretched : (x : Float) → T (finite x) → T (le (mul binary32 x x) s) → T (finite (mul binary32 x k))
+  unfolding absOf
   stretched nan f u = absurd f
   stretched (inf t) f u = absurd f
   stretched (fin false m e) f u = grown (fin false m e) f u
@@ -292,10 +286,10 @@ to-zero (fin true m e) f =
 abbrev wide : Float
 wide = fin false 1 (pos 64)
 
-small-square : (x : Float) → T (finite x) → T (finite (mul binary32 x x)) → T (le (size x) wide)
-small-square x f h = go (lt wide (size x)) refl
+small-square : (x : Float) → T (finite x) → T (finite (mul binary32 x x)) → T (le (absOf x) wide)
+small-square x f h = go (lt wide (absOf x)) refl
   where
-    m : T (magnitude (size x))
+    m : T (magnitude (absOf x))
     m = size-magnitude x f
 
     infinite : (y : Float) → T (le (mul binary32 wide wide) y) → T (finite y) → ⊥
@@ -303,14 +297,14 @@ small-square x f h = go (lt wide (size x)) refl
     infinite (inf s) l g = g
     infinite (fin s n d) l g = unfold mul le lt eq in l
 
-    clash : T (lt wide (size x)) → ⊥
+    clash : T (lt wide (absOf x)) → ⊥
     clash t =
-        let a = sq-mono binary32 wide (size x) tt (magnitude-nonneg (size x) m) (lt→le wide (size x) t) in
+        let a = sq-mono binary32 wide (absOf x) tt (magnitude-nonneg (absOf x) m) (lt→le wide (absOf x) t) in
         infinite (mul binary32 x x) (subst (λ (z : Float). T (le (mul binary32 wide wide) z)) (size-square x f) a) h
 
-    go : (b : Bool) → lt wide (size x) ≡ b → T (le (size x) wide)
+    go : (b : Bool) → lt wide (absOf x) ≡ b → T (le (absOf x) wide)
     go true e = absurd (clash (of-taken e))
-    go false e = not-lt→le wide (size x) (finite-number wide tt) (finite-number (size x) (magnitude-finite (size x) m)) (of-left e)
+    go false e = not-lt→le wide (absOf x) (finite-number wide tt) (finite-number (absOf x) (magnitude-finite (absOf x) m)) (of-left e)
 
 widest : T (finite (mul binary32 wide one))
 unfolding mul
@@ -320,7 +314,8 @@ widest = tt
 shrunk-size : (x s : Float) → T (magnitude x) → T (le x wide) → T (magnitude s) → T (le s one) → T (finite (mul binary32 x s))
 shrunk-size x s p l q h = magnitude-finite (mul binary32 x s) (bounded (mul binary32 x s) (mul binary32 wide one) (mul-nonneg x s p q) widest (mul-mono-mag binary32 x wide s one p tt q tt l h))
 
-shrunk : (x s : Float) → T (finite x) → T (le (size x) wide) → T (magnitude s) → T (le s one) → T (finite (mul binary32 x s))
+shrunk : (x s : Float) → T (finite x) → T (le (absOf x) wide) → T (magnitude s) → T (le s one) → T (finite (mul binary32 x s))
+unfolding absOf
 shrunk nan s f l q h = absurd f
 shrunk (inf t) s f l q h = absurd f
 shrunk (fin false m e) s f l q h = shrunk-size (fin false m e) s tt l q h

@@ -39,7 +39,7 @@ use Rattle.lookup_laws.proofs.Loaded as built
 
 -- ---- lists of measurements in place order
 
-length-placed : (xs : List Float) (n i : ℕ) → length (placedFrom xs n i) ≡ n
+pub length-placed : (xs : List Float) (n i : ℕ) → length (placedFrom xs n i) ≡ n
 unfolding placedFrom
 length-placed xs zero i = refl
 length-placed xs (suc n) i = ap suc (length-placed xs n (suc i))

@@ -59,15 +59,6 @@ next-fits i n h g = record { fits = omega arith }
 pub below-all : (i n len len₀ : ℕ) → i < n → n ≤ len₀ → len ≡ len₀ → i < len
 below-all i n len len₀ h g e = omega arith
 
-pub next-in : (i n : ℕ) → i < n → i + 1 ≤ n
-next-in i n h = omega arith
-
-pub next-less : (i n : ℕ) → i < n → n - (i + 1) < n - i
-next-less i n h = omega arith
-
-pub at-end : (i n : ℕ) → i ≤ n → n ≤ i → i ≡ n
-at-end i n h g = omega arith
-
 -- ---- a list of values: the same ones, more of them, and those of a part
 module _ {A : Type 0} where
   pub upto-same : (f g : ℕ → A) (n : ℕ) → ((i : ℕ) → i < n → f i ≡ g i) → upto f n ≡ upto g n

@@ -127,7 +127,7 @@ inf-not-lt x y e = subst (λ (z : Float). T (not (lt z y))) (sym e) (top y)
     top (inf t) = unfold lt in tt
     top (fin t n d) = unfold lt in tt
 
-nan-not-lt : (x y : Float) → x ≡ nan → T (not (lt x y))
+pub nan-not-lt : (x y : Float) → x ≡ nan → T (not (lt x y))
 nan-not-lt x y e = subst (λ (z : Float). T (not (lt z y))) (sym e) (unfold lt in tt)
 
 pub gap-below : (p l x : Float) → T (lt p l) → T (not (lt x l)) → T (not (lt (gap x p) (gap l p)))

@@ -1,7 +1,6 @@
 -- The ways out of a filter: refused beforehand, refused on the way, answered; and what a verdict of Fine gives it. Assumes nothing.
 use Prim.Native.Nat.{ℕ, _*_, _<_, _≤_}
 use mathlib.Core.Path.{_≡_, sym, ap, _∙_}
-use mathlib.Core.Bool.{Bool}
 use mathlib.Core.List.{List}
 use lib.ListN.{length}
 use lib.Ieee.{Float}
@@ -18,7 +17,7 @@ use Rattle.lookup.specs.declared.Located.{Located}
 use Rattle.lookup.specs.declared.Located.the-variants.{At, Refused}
 use Rattle.lookup.specs.Lookup.{verdictIn, locateOf, treeLengths}
 use Rattle.mix.specs.Mix.{Sized}
-use Rattle.interpolate.specs.Blend.{Filter, refusedOf, extractOf, interpolateOf}
+use Rattle.interpolate.specs.Blend.{Filter, extractOf, interpolateOf}
 use Rattle.reader.specs.Queries.{silent, allowed, nearestOr, lengthsOf, filterSays, plainSays, numberSays}
 use Rattle.reader.proofs.Near.{located-below}
 

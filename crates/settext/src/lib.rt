@@ -3,7 +3,6 @@
 // `take_line` equals `lineOf` (specs/Lines.antt), which says what each line makes of the state and of the three lists; `at_end` equals
 // `endOf`. Which line is wanted follows from how many were read, since each of them was well formed; the next one's number is K of a form error.
 ghost use mathlib.Core.Path.{_≡_};
-ghost use lib.ListN.{length};
 ghost use Rattle.settext.specs.State.{startOf, numberOf, totalOf, wentOf, badOf};
 ghost use Rattle.settext.specs.Lines.{kindOf, product, formLine, kindLine, mLine, rLine, nLine, rateLine, astepLine, rstepLine, delaysLine, keyLine, valuesLine, valuesList, queryLine, After, lineOf, endOf};
 use keys::Place;

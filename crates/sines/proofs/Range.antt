@@ -1,7 +1,7 @@
 -- A float from -16 to 16: its size, and what that is in units of 2^-40. Assumes nothing.
 use mathlib.Core.Bool.{Bool, true, false, _&&_, not, cond, _||_}
 use mathlib.Core.Logic.{_⊎_, inl, inr}
-use lib.Dec.{T, ltb, eqb, ltb→lt, nltb→le, eqb→eq}
+use lib.Dec.{T, ltb, eqb, ltb→lt, eqb→eq}
 use Prim.Native.Nat.{ℕ, _*_, _/_, _≤_, _<_}
 use native.Mathlib.Nat.{le-trans, le-of-eq, le-of-lt, le-of-mul-le-mul-right, div-mul-le-self}
 use lib.Ieee.Fits.{and-l, and-r, down-pos}
@@ -11,20 +11,15 @@ use lib.IntN.{ℤ}
 use lib.Ieee.{Float, nan, inf, fin, up, down, neg, lt, le}
 use lib.Ieee.Scale.{finite}
 use Rattle.bits.specs.Parts.{places}
+use Rattle.bits.proofs.Wide.{or-le}
 use Rattle.sines.specs.Sines.{sixteen, inRange, plusZero, absf}
 
 or-split : (a b : Bool) → T (a || b) → T a ⊎ T b
 or-split true b t = inl tt
 or-split false b t = inr t
 
-pub at-most : (a b : ℕ) (r : Bool) → T (ltb a b || (eqb a b && r)) → a ≤ b
-at-most a b r t = elim (or-split (ltb a b) (eqb a b && r) t) [ inl u ↦ le-of-lt (ltb→lt a b u) | inr u ↦ le-of-eq (eqb→eq a b (and-l (eqb a b) r u)) ]
-
 at-most' : (a b : ℕ) (r : Bool) → T (ltb a b || (eqb b a && r)) → a ≤ b
 at-most' a b r t = elim (or-split (ltb a b) (eqb b a && r) t) [ inl u ↦ le-of-lt (ltb→lt a b u) | inr u ↦ le-of-eq (sym (eqb→eq b a (and-l (eqb b a) r u))) ]
-
-pub not-lt : (a b : ℕ) → ltb a b ≡ false → b ≤ a
-not-lt a b h = nltb→le a b (subst (λ (z : Bool). T (not z)) (sym h) tt)
 
 -- ---- within ±16
 pub range-hi : (s : Bool) (m : ℕ) (e : ℤ) → T (inRange (fin s m e)) → m * up e ≤ 16 * down e
@@ -33,7 +28,7 @@ range-hi true m e t = go (at-most' (m * up e * 1) (16 * down e) true (and-l (le 
   where
     go : m * up e * 1 ≤ 16 * down e → m * up e ≤ 16 * down e
     go h = omega arith
-range-hi false m e t = go (at-most (m * up e * 1) (16 * down e) true (and-r (le (neg sixteen) (fin false m e)) (le (fin false m e) sixteen) t))
+range-hi false m e t = go (or-le (m * up e * 1) (16 * down e) true (and-r (le (neg sixteen) (fin false m e)) (le (fin false m e) sixteen) t))
   where
     go : m * up e * 1 ≤ 16 * down e → m * up e ≤ 16 * down e
     go h = omega arith

@@ -2,25 +2,20 @@
 use mathlib.Core.Path.{_≡_, ap, _∙_, sym, subst, refl}
 use mathlib.Core.Bool.{true, false, Bool, not, true≢false}
 use Prim.Native.Nat.{ℕ, _≤_, _<_, suc, _+_, _-_, _*_, _/_, _%_, zero}
-use lib.Dec.{leb, le→leb, T, leb→le, not-T, nleb→lt, eqb, eqb→eq, lit≤}
+use lib.Dec.{leb, T, leb→le, nleb→lt, eqb, eqb→eq, lit≤}
 use lib.Ieee.Fits.{eq→eqb}
-use lib.Ieee.Bits.{is-true, is-false}
-use native.Mathlib.Nat.{lt-irrefl, lt-of-lt-of-le, lt-of-le-of-lt, add-zero, le-trans, eq-or-lt-of-le}
+use lib.Ieee.Bits.{is-true}
+use native.Mathlib.Nat.{lt-irrefl, lt-of-le-of-lt, add-zero, le-trans, eq-or-lt-of-le}
 use native.Mathlib.Omega.{arith}
 use mathlib.Core.Logic.{_⊎_, inr, inl}
 use native.Mathlib.Numerals.{add-one}
+use borrow.Author.Tests.{le-leb}
 use Rattle.sines.specs.Steps.{bound, rest, scan}
 use Rattle.sines.proofs.Bounds.{rest-even, rest-odd}
 
-leb-yes : (a b : ℕ) → a ≤ b → leb a b ≡ true
-leb-yes a b h = is-true (leb a b) (le→leb a b h)
-
-leb-no : (a b : ℕ) → b < a → leb a b ≡ false
-leb-no a b h = is-false (leb a b) (not-T (leb a b) (λ (t : T (leb a b)). lt-irrefl b (lt-of-lt-of-le h (leb→le a b t))))
-
 stop-suc : (f q x : ℕ) → x ≤ bound (q + 1) → scan (suc f) q x ≡ q
 unfolding scan
-stop-suc f q x h = ap (λ (b : Bool). elim b [ true ↦ q | false ↦ scan f (q + 1) x ]) (leb-yes x (bound (q + 1)) h)
+stop-suc f q x h = ap (λ (b : Bool). elim b [ true ↦ q | false ↦ scan f (q + 1) x ]) (le-leb x (bound (q + 1)) h)
 
 left : (q : ℕ) → q < 20 → 20 - q ≡ suc (20 - (q + 1))
 left q h = omega arith

@@ -6,7 +6,7 @@ use lib.IntN.{pos, negsuc}
 use lib.Ieee.{Float, fin, binary64, ofInt, le, lt, neg}
 use Rattle.bits.specs.Parts.{places, narrowed}
 use Rattle.sines.specs.Steps.{xor, even, scan}
-use Rattle.sines.specs.Sines.{plusZero, one, small, absf, half, odd, num, less, times, restOf, sinPoly, cosPoly, sinValue, sinMinus, cosValue, cosMinus, single, sinFrom, cosFrom, sineSteps, cosineSteps}
+use Rattle.sines.specs.Sines.{plusZero, one, small, absf, half, odd, num, plus, less, times, restOf, sinPoly, cosPoly, sinValue, sinMinus, cosValue, cosMinus, single, sinFrom, cosFrom, sineSteps, cosineSteps}
 
 -- ---- one of two, and the size
 pub xor-true : (a b : Bool) → a ≡ true → not b ≡ xor a b
@@ -32,7 +32,30 @@ pub rest-is : (q : ℕ) (a b w : Float) → b ≡ a → w ≡ absf (less b (time
 unfolding restOf
 rest-is q a b w e h = h ∙ ap (λ (z : Float). absf (less z (times (ofInt binary64 (pos (even q))) (num 4605249457297304856)))) e
 
--- ---- k mod 4 = 3
+-- ---- the polynomials, with their figures as the code has them
+pub sin-poly-is : (r : Float)
+    → (let z = times r r in
+    let c = times r z in
+    plus (less r (times c (num 4595172815570052611))) (times (times c z) (less (num 4575956795463502788) (times z (num 4551332636403224356)))))
+    ≡ sinPoly r
+unfolding sinPoly
+sin-poly-is r = refl
+
+pub cos-poly-is : (r : Float)
+    → (let z = times r r in
+    let y = times z z in
+    less (plus (less (num 4607182418800017408) (times z (num 4602678819123126812))) (times y (num 4586165614292668185))) (times (times y z) (less (num 4564046962342114717) (times z (num 4537820015566256323)))))
+    ≡ cosPoly r
+unfolding cosPoly
+cos-poly-is r = refl
+
+-- ---- k mod 4, and where it is 3
+pub sin-minus-at : (k n : ℕ) (d : Bool) → k ≡ n → sinMinus n d ≡ sinMinus k d
+sin-minus-at k n d e = ap (λ (z : ℕ). sinMinus z d) (sym e)
+
+pub cos-minus-at : (k n : ℕ) (d : Bool) → k ≡ n → cosMinus n d ≡ cosMinus k d
+cos-minus-at k n d e = ap (λ (z : ℕ). cosMinus z d) (sym e)
+
 pub sin-value-last : (k : ℕ) (r v : Float) → (k ≡ 0 → ⊥) → (k ≡ 1 → ⊥) → (k ≡ 2 → ⊥) → v ≡ cosPoly r → v ≡ sinValue k r
 sin-value-last zero r v x y z e = absurd (x refl)
 sin-value-last (suc zero) r v x y z e = absurd (y refl)

@@ -1,5 +1,4 @@
 -- A set at the C border: document 01's number and values for each case of an answer. Definitions only.
-use Prim.Native.Nat.{ℕ}
 use mathlib.Core.List.{List}
 use mathlib.Core.Bool.{cond}
 use lib.Ieee.{Float}

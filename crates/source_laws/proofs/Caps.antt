@@ -1,10 +1,10 @@
 -- The source's step cap for an allowed angle step is the port's: the larger of the two magnitudes is the step. Assumes nothing.
 use mathlib.Core.Path.{_≡_, refl, sym, ap, subst}
-use mathlib.Core.Bool.{Bool, true, false, cond, not}
+use mathlib.Core.Bool.{Bool, true, false, cond}
 use lib.Dec.{T}
 use lib.Ieee.{Float, nan, inf, fin, binary32, neg, lt, isNan, ofBits}
 use Rattle.floats.specs.Floats.{zero32, absOf, maxOf}
-use Rattle.floats.proofs.Cross.{is-true}
+use lib.Ieee.Bits.{is-true, is-false}
 use Rattle.floats.proofs.Preorder.{lt-le-trans, lt→le, le→not-lt}
 use Rattle.limits.specs.Allowed.{nearest, angleStepOk}
 use Rattle.limits.proofs.Ends.{tenth, between-low}
@@ -40,11 +40,7 @@ not-nan (inf s) h = refl
 not-nan (fin s m e) h = refl
 
 not-below : (x : Float) → lt zero32 x ≡ true → lt x zero32 ≡ false
-not-below x h = falsely (lt x zero32) (le→not-lt zero32 x (lt→le zero32 x (subst T (sym h) tt)))
-  where
-    falsely : (b : Bool) → T (not b) → b ≡ false
-    falsely true t = absurd t
-    falsely false t = refl
+not-below x h = is-false (lt x zero32) (le→not-lt zero32 x (lt→le zero32 x (subst T (sym h) tt)))
 
 max-left : (x : Float) → lt zero32 x ≡ true → maxOf x zero32 ≡ x
 unfolding maxOf

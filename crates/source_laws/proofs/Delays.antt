@@ -53,9 +53,6 @@ module _ (delays : List Float) (m r k : ℕ) (hk : k < m) (hr : 2 ≤ r) where
   unfolding extractDelays plainDelay strideOf
   extract-same = go (eqb len m) (leb (m * r) len) (leb r len) refl refl refl
     where
-      two : Float → Float → source.Delays
-      two a b = record { «delay_left» = a; «delay_right» = b }
-
       go : (a b c : Bool) → eqb len m ≡ a → leb (m * r) len ≡ b → leb r len ≡ c
           → _≡_ {A = source.Delays}
           (cond a (record { «delay_left» = getOr delays k zero32; «delay_right» = getOr delays k zero32 })

@@ -24,6 +24,7 @@ use Rattle.lookup.specs.Build.{Links, linked, boxOf, lookupOf}
 use Rattle.lookup.specs.Lookup.{clampedBy, locatedAs, locateOf}
 use Rattle.lookup.specs.declared.Located.the-variants.{At}
 use Rattle.lookup.proofs.Links.{linked-left, linked-right}
+use Rattle.lookup_laws.proofs.Nearest.{length-placed}
 use Rattle.lookup_laws.specs.Loaded.{placed, placedFrom, Room, filledWith}
 use Rattle.lookup_laws.proofs.Loaded as filled
 use Rattle.lookup_laws.proofs.Loaded.{itself, number-at}
@@ -45,11 +46,6 @@ pub record Holds (xs : List Float) (n : ℕ) (left right : List ℕ) : Type 0 wh
   pub right-is : right ≡ over (linked xs (suc n) .right) (before .right)
 
 -- ---- the source's inserts are those in place order
-
-long-placed : (xs : List Float) (k i : ℕ) → length (placedFrom xs k i) ≡ k
-unfolding placedFrom
-long-placed xs zero i = refl
-long-placed xs (suc k) i = ap suc (long-placed xs k (suc i))
 
 inserts : (xs : List Float) (k i : ℕ) → inserted (placedFrom xs k i) (measuredTo xs i .kdtree) ≡ measuredTo xs (i + k) .kdtree
 unfolding inserted placedFrom
@@ -89,7 +85,7 @@ module _ (xs : List Float) (n : ℕ) (left right : List ℕ) (H : Holds xs n lef
       bare (listsOf xs (H .before .left) (H .before .right) (replicate (suc n) 0)) (boxAt (pointAt xs 0)) (placedFrom xs (suc n) 0) room)
     where
       room : RoomFor (listsOf xs (H .before .left) (H .before .right) (replicate (suc n) 0)) (length (placedFrom xs (suc n) 0))
-      room = rw (long-placed xs (suc n) 0)
+      room = rw (length-placed xs (suc n) 0)
           (record { most = H .room .most; positions = H .room .positions; left = H .room .left; right = H .room .right; numbers = let z = length-replicate (suc n) zero in omega arith })
 
   built-by : inserted (placedFrom xs (suc n) 0) newTree ≡ measuredTo xs (suc n) .kdtree

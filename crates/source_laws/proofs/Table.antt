@@ -18,7 +18,7 @@ use Rattle.lookup.specs.Build.{lookupOf}
 use Rattle.neighbors.specs.declared.Reached.{Reached}
 use Rattle.neighbors.specs.Neighbors.{steps, stepOf, angleCap, capOf, going, directionOf, neighborOf, entryOf, tabledAs, tableOf}
 use Rattle.neighbors.proofs.Table.{Writes, writes-at, writes-absent, all-answered}
-use Rattle.source.specs.Rust.{Option, None, Some, array}
+use Rattle.source.specs.Rust.{Option, None, Some}
 use Rattle.source.specs.Coords.{«cartesian_to_spherical»}
 use Rattle.source.specs.Lookup.{triplet}
 use Rattle.source.specs.Neighbors.{Neighbors, defaultNeighbors, «max_steps», stepping, «search_direction», «find_neighbors», pushing, newNeighborhood, get}
@@ -50,9 +50,6 @@ module _ (xs : List Float) (n : ℕ) (small : suc n ≤ 16384) (left right : Lis
 
     abbrev search : Point3 → Spherical → Option ℕ
     search p step = «search_direction» ported own (p .x) (p .y) (p .z) (step .azimuth) (step .elevation) (step .radius) (measuredTo xs (suc n))
-
-    abbrev laid : Point3
-    laid = array (from .azimuth) (from .elevation) (from .radius)
 
     -- the source's search along a step, so many turns
     abbrev goes : Spherical → ℕ → Option ℕ

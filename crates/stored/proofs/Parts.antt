@@ -19,7 +19,6 @@ use Rattle.mix.specs.Mix.{startOf}
 use Rattle.stored.specs.declared.Part.{Part}
 use Rattle.stored.specs.declared.Part.the-variants as part
 use Rattle.stored.specs.declared.Entries.{Entries}
-use Rattle.stored.specs.declared.Around.{Around}
 use Rattle.stored.specs.declared.Around.the-variants as around
 use Rattle.stored.specs.Numbers.{partBy, partOf, within, responseOf, entriesOf, aroundBy, aroundOf}
 use Rattle.delays.specs.declared.Seconds.{Seconds}

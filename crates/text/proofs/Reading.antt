@@ -12,20 +12,13 @@ use lib.Seq.{drop-cons, length-take-le}
 use lib.Ieee.{Float}
 use lib.Ieee.Bits.{is-true}
 use borrow.Author.Tests.{lt-ltb, le-ltb, eq-eqb, ne-eqb, le-leb, lt-leb, leb-true, eqb-true, eqb-false}
+use Rattle.floats.proofs.Cross.{and-left, and-right}
 use Rattle.lists.specs.Over.{over, upto}
 use Rattle.lists.proofs.Laws.{over-nil, upto-more}
 use Rattle.text.specs.declared.Num.{Num}
 use Rattle.text.specs.declared.Num.the-variants.{Is, Bad}
 use Rattle.text.specs.Values.{goodAt, valuesOk, allBelow, into}
 use Rattle.text.specs.Number.{hexOf, countOf, pick, digitOf, numFrom, begins, atMost}
-
-pub and-left : (a b : Bool) → (a && b) ≡ true → a ≡ true
-and-left true b e = refl
-and-left false b e = e
-
-pub and-right : (a b : Bool) → (a && b) ≡ true → b ≡ true
-and-right true b e = e
-and-right false b e = absurd (subst (λ (x : Bool). T (not x)) e tt)
 
 -- ---- digits
 

@@ -5,7 +5,7 @@ use mathlib.Core.Logic.{inl, inr}
 use mathlib.Core.Bool.{Bool, true, false, not, cond}
 use lib.Dec.{T, T-not, not-T}
 use lib.IntN.{pos}
-use lib.Ieee.{Float, nan, fin, binary32, add, sub, lt, le, fits, ofBits}
+use lib.Ieee.{Float, fin, binary32, add, sub, lt, le, fits, ofBits}
 use lib.Ieee.Fits.{add-fits, mul-fits}
 use Rattle.points.specs.declared.Point3.{Point3}
 use Rattle.kdtree.specs.declared.BoundingBox.{BoundingBox}
@@ -15,7 +15,7 @@ use Rattle.floats.proofs.Cross.{of-taken, of-left}
 use Rattle.floats.proofs.Preorder.{number, le-trans-f, lt→le, le→not-lt, not-lt→le, not-lt-trans, lt-irrefl-f, lt-trans-f}
 use Rattle.floats.proofs.Sign.{nonneg}
 use Rattle.floats.proofs.Ops.{nonneg-number, add-nonneg, add-mono, add-grows, zero-plus}
-use Rattle.points.proofs.Gap.{Fair, sq-fair, add-fair, add-nan-l, add-nan-r, gap-comm, gap-outside, gap-below, gap-above}
+use Rattle.points.proofs.Gap.{Fair, sq-fair, add-fair, add-nan-l, add-nan-r, gap-comm, gap-outside, nan-not-lt, gap-below, gap-above}
 
 abbrev zero : Float
 zero = fin false 0 (pos 0)
@@ -72,9 +72,6 @@ box-nonneg b p =
 pub box-number : (b : BoundingBox) (p : Point3) → T (number (boxDistSq b p))
 box-number b p = nonneg-number (boxDistSq b p) (box-nonneg b p)
 
-nan-under : (z y : Float) → z ≡ nan → T (not (lt z y))
-nan-under z y e = subst (λ (w : Float). T (not (lt w y))) (sym e) (unfold lt in tt)
-
 -- the sum so far is no more for the box than for a point in it: then with the next axis too
 pub step : (r s lo hi p x : Float) → T (nonneg r) → Fair s → T (fits binary32 s) → T (not (lt s r)) → Between lo hi x → T (not (lt (add binary32 s (gap x p)) (outside r lo hi p)))
 step r s lo hi p x R S F h i = go S (sq-fair (sub binary32 x p))
@@ -95,8 +92,8 @@ step r s lo hi p x R S F h i = go S (sq-fair (sub binary32 x p))
         subst (λ (z : Float). T (le z (add binary32 s (gap x p)))) (sym (outside-within r lo hi p t u)) (le-trans-f r s (add binary32 s (gap x p)) (num a) (add-grows binary32 s (gap x p) a b F))
 
     go : Fair s → Fair (gap x p) → T (not (lt (add binary32 s (gap x p)) (outside r lo hi p)))
-    go (inl e) g = nan-under (add binary32 s (gap x p)) (outside r lo hi p) (ap (λ (z : Float). add binary32 z (gap x p)) e ∙ add-nan-l (gap x p))
-    go (inr a) (inl e) = nan-under (add binary32 s (gap x p)) (outside r lo hi p) (ap (λ (z : Float). add binary32 s z) e ∙ add-nan-r s)
+    go (inl e) g = nan-not-lt (add binary32 s (gap x p)) (outside r lo hi p) (ap (λ (z : Float). add binary32 z (gap x p)) e ∙ add-nan-l (gap x p))
+    go (inr a) (inl e) = nan-not-lt (add binary32 s (gap x p)) (outside r lo hi p) (ap (λ (z : Float). add binary32 s z) e ∙ add-nan-r s)
     go (inr a) (inr b) = le→not-lt (outside r lo hi p) (add binary32 s (gap x p)) (pick a b (told (lt p lo)) (told (lt hi p)))
 
 -- ---- the box lemma, of any floats

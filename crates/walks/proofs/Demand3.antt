@@ -29,7 +29,8 @@ use Rattle.lists.specs.Each.{Each, In}
 use Rattle.walks.specs.Demand3.{Numbered, distTo, Nearer, NotNearer, SomeNan, Reordered, Bare, empty, kept, insertInto, fill, answers, Accepted, RoomFor, nearestIn, searchIn, treeIn, standing, rootOf, walkNames, visiting, FirstNearest, Alone, NamesNearest, Demand3}
 use Rattle.points.proofs.Distance.{dist-number, dist-nan}
 use Rattle.walks.proofs.Pruned.{Agrees, prune, walk-none}
-use Rattle.walks.proofs.Lists.{each-append, each-left, each-right, each-in, each-to, each-both, each-reordered, each-ordered, in-reordered, in-ordered, in-middle, reordered-again, map-append}
+use Rattle.lists.proofs.Laws.{each-append}
+use Rattle.walks.proofs.Lists.{each-left, each-right, each-in, each-to, each-both, each-reordered, each-ordered, in-reordered, in-ordered, in-middle, reordered-again, map-append}
 use Rattle.walks.proofs.First.{distOf, scan, walk-scan, all-order, scan-least, Named, scan-first}
 use Rattle.walks.proofs.Rep.{rep-at}
 use Rattle.walks.proofs.Sides.{sorted-within}

@@ -17,7 +17,7 @@ use Rattle.kdtree.specs.Tree.{Tree, gone, bad, node}
 use Rattle.kdtree.specs.Unpruned.{Pick, Item, meet, walk, order}
 use Rattle.kdtree.proofs.Nodes.{All}
 use Rattle.lists.specs.Each.{Each}
-use Rattle.walks.proofs.Lists.{each-append, each-left, each-right}
+use Rattle.lists.proofs.Laws.{each-append}
 
 -- true is not false
 pub tf : {A : Type 0} (b : Bool) → b ≡ true → b ≡ false → A
@@ -70,25 +70,6 @@ module _ (q : Point3) where
   module _ (P : ℕ → Point3 → Type 0) where
     abbrev OfItem : Item → Type 0
     OfItem i = P (i .place) (i .point)
-
-    pub order-all : (t : Tree) (axis : ℕ) → Each OfItem (order q t axis) → All P t
-    unfolding order
-    order-all gone axis e = tt
-    order-all bad axis e = tt
-    order-all (node n p l r) axis e = go (leftFirst q p axis) (order-all l (nextAxis axis)) (order-all r (nextAxis axis)) e
-      where
-        i : Item
-        i = record { place = n; point = p }
-
-        go : (g : Bool) → (Each OfItem (order q l (nextAxis axis)) → All P l) → (Each OfItem (order q r (nextAxis axis)) → All P r)
-            → Each OfItem (cond g (order q l) (order q r) (nextAxis axis) ++ (i ∷ cond g (order q r) (order q l) (nextAxis axis)))
-            → P n p × (All P l × All P r)
-        go true a b e =
-            let y = each-right OfItem (order q l (nextAxis axis)) (i ∷ order q r (nextAxis axis)) e in
-            (y .0, (a (each-left OfItem (order q l (nextAxis axis)) (i ∷ order q r (nextAxis axis)) e), b (y .1)))
-        go false a b e =
-            let y = each-right OfItem (order q r (nextAxis axis)) (i ∷ order q l (nextAxis axis)) e in
-            (y .0, (a (y .1), b (each-left OfItem (order q r (nextAxis axis)) (i ∷ order q l (nextAxis axis)) e)))
 
     pub all-order : (t : Tree) (axis : ℕ) → All P t → Each OfItem (order q t axis)
     unfolding order

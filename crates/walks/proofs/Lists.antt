@@ -6,10 +6,6 @@ use Rattle.lists.specs.Each.{Each, In}
 use Rattle.walks.specs.Demand3.{Put, here, there, Reordered, none, more}
 
 module _ {A : Type 0} (P : A → Type 0) where
-  pub each-append : (k l : List A) → Each P k → Each P l → Each P (k ++ l)
-  each-append [] l a b = b
-  each-append (x ∷ k) l a b = (a .0, each-append k l (a .1) b)
-
   pub each-left : (k l : List A) → Each P (k ++ l) → Each P k
   each-left [] l a = tt
   each-left (x ∷ k) l a = (a .0, each-left k l (a .1))
@@ -110,10 +106,6 @@ module _ {A B : Type 0} (f : A → B) where
   pub put-map : {x : A} {k l : List A} → Put x k l → Put (f x) (map f k) (map f l)
   put-map here = here
   put-map (there p) = there (put-map p)
-
-  pub each-map : (P : B → Type 0) (l : List A) → Each (λ (a : A). P (f a)) l → Each P (map f l)
-  each-map P [] e = tt
-  each-map P (x ∷ l) e = (e .0, each-map P l (e .1))
 
   pub map-append : (k l : List A) → map f (k ++ l) ≡ map f k ++ map f l
   map-append [] l = refl

@@ -17,7 +17,6 @@ use Rattle.kdtree.specs.Tree.{Tree, gone, bad, node, linkOf, sideOf, subtree}
 use Rattle.points.specs.Points.{pointAt}
 use Rattle.kdtree.specs.Insert.{sideSlot, slotIn}
 use Rattle.kdtree.specs.Unpruned.{size}
-use Rattle.kdtree.proofs.Nodes.{All}
 use Rattle.walks.proofs.Pruned.{Clean}
 
 -- ---- places of a tree
@@ -32,11 +31,6 @@ abbrev pub Distinct : Tree → Type 0
 Distinct gone = Unit
 Distinct bad = Unit
 Distinct (node n p l r) = ((i : ℕ) → Mem i l → Mem i r → ⊥) × (Distinct l × Distinct r)
-
-pub all-mem : (P : ℕ → Type 0) (t : Tree) → ((i : ℕ) → Mem i t → P i) → All (λ n p. P n) t
-all-mem P gone h = tt
-all-mem P bad h = tt
-all-mem P (node n p l r) h = (h n (inl refl), (all-mem P l (λ i m. h i (inr (inl m))), all-mem P r (λ i m. h i (inr (inr m)))))
 
 -- ---- the tree with one node more
 

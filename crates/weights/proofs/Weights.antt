@@ -1,11 +1,12 @@
 -- The weights of a blend: none is a NaN or negative, their sum is no less than any of them, and divided by it each lies from +0 to 1. Assumes nothing.
 use mathlib.Core.Path.{_≡_, refl, sym, subst, _∙_}
-use mathlib.Core.Bool.{Bool, true, false, not, cond, _&&_}
+use mathlib.Core.Bool.{Bool, true, false, cond, _&&_}
 use mathlib.Core.List.{List, [], _∷_, _++_, map}
 use Prim.Native.Nat.{ℕ, zero, suc, _*_, _≤_, _<_}
+use native.Mathlib.Nat.{zero-lt-suc}
 use native.Mathlib.Omega.{arith}
 use lib.IntN.{ℤ, pos}
-use lib.Dec.{T, eqb, eqb→eq, lt→ltb, ltb→lt}
+use lib.Dec.{T, T-not, eqb, eqb→eq, lt→ltb, ltb→lt}
 use lib.ListN.{length, length-append, length-map}
 use lib.Ieee.{Float, nan, inf, fin, Format, binary32, up, down, round, sum, add, div, le, lt, fits, isNan, ofBits}
 use lib.Ieee.Fits.{add-fits, div-fits}
@@ -27,6 +28,7 @@ use Rattle.interpolate.specs.declared.Closest.{Closest}
 use Rattle.interpolate.specs.declared.Closest.the-variants.{Nothing, At}
 use Rattle.interpolate.proofs.Laws.{within-below, known-within, neighbors-known, taken-length}
 use Rattle.lists.specs.Each.{Each}
+use Rattle.lists.proofs.Laws.{each-append}
 use Rattle.weights.specs.Weights.{Measured, Portion, Shared}
 use Rattle.weights.proofs.Distances.{distance-nonneg}
 
@@ -60,10 +62,7 @@ weight-nonneg (inf true) p = absurd p
 weight-nonneg (inf false) p = tt
 weight-nonneg (fin true n e) p = absurd p
 weight-nonneg (fin false zero e) p = tt
-weight-nonneg (fin false (suc n) e) p = div-nonneg binary32 one32 (fin false (suc n) e) tt (lt→ltb 0 (suc n) (above n))
-  where
-    above : (n : ℕ) → 0 < suc n
-    above n = omega arith
+weight-nonneg (fin false (suc n) e) p = div-nonneg binary32 one32 (fin false (suc n) e) tt (lt→ltb 0 (suc n) (zero-lt-suc n))
 
 -- a value that is not below 1e-10 is not zero
 zero-le : (e : ℤ) → T (le (fin false 0 e) zero32)
@@ -81,10 +80,7 @@ above-zero zero e h = absurd (no (subst T h (le-lt-trans (fin false 0 e) zero32 
 
     zero-below : T (lt zero32 tiny32)
     zero-below = unfold lt ofBits in tt
-above-zero (suc n) e h = lt→ltb 0 (suc n) (above n)
-  where
-    above : (n : ℕ) → 0 < suc n
-    above n = omega arith
+above-zero (suc n) e h = lt→ltb 0 (suc n) (zero-lt-suc n)
 
 -- what is at most the largest f32 is finite
 finite-below : (x : Float) → T (nonneg x) → T (le x largest32) → T (magnitude x)
@@ -110,12 +106,8 @@ weight-most (inf false) p h = unfold most32 div le ofBits round in tt
 weight-most (fin true n e) p h = absurd p
 weight-most (fin false n e) p h =
     let d = fin false n e in
-    let q = above-zero n e (is-false (lt d tiny32) (clash (lt d tiny32) (le→not-lt tiny32 d h))) in
+    let q = above-zero n e (is-false (lt d tiny32) (T-not (lt d tiny32) (le→not-lt tiny32 d h))) in
     unfold most32 in div-mono binary32 one32 one32 d tiny32 (ends .0) (ends .0) q (ends .1) (ends .2) h
-  where
-    clash : (b : Bool) → T (not b) → T b → ⊥
-    clash true p q = p
-    clash false p q = q
 
 most-finite : T (le most32 largest32)
 unfolding most32 le div ofBits round
@@ -135,10 +127,6 @@ share-good k d h = record { sign = weight-nonneg d h; fit = div-fits binary32 on
 
 share-sound : (k : ℕ) (d : Float) → T (nonneg d) → T (le tiny32 d) → Sound (shareOf k d)
 share-sound k d h b = record { good = share-good k d h; most = weight-most d h b }
-
-each-join : {A : Type 0} (P : A → Type 0) (xs ys : List A) → Each P xs → Each P ys → Each P (xs ++ ys)
-each-join P [] ys e f = f
-each-join P (x ∷ xs) ys e f = (e .0, each-join P xs ys (e .1) f)
 
 goods : (ps : List Share) → Each Sound ps → Each Good ps
 goods [] e = tt
@@ -273,7 +261,7 @@ module _ (m : ℕ) (d : ℕ → Float) (h : (j : ℕ) → j < m → T (nonneg (d
       let one = shareOf k (d k) ∷ [] in
       let far = not-lt→le (d k) close32 (nonneg-number (d k) (h k hk)) close-number (of-left hc) in
       let first = share-sound k (d k) (h k hk) (le-trans-f tiny32 close32 (d k) tiny-close far) in
-      each-join Sound ((one ++ a) ++ b) c (each-join Sound (one ++ a) b (each-join Sound one a (first, tt) (pair-sound _ _ (g .a-known) (g .b-known))) (pair-sound _ _ (g .c-known) (g .d-known)))
+      each-append Sound ((one ++ a) ++ b) c (each-append Sound (one ++ a) b (each-append Sound one a (first, tt) (pair-sound _ _ (g .a-known) (g .b-known))) (pair-sound _ _ (g .c-known) (g .d-known)))
       (pair-sound _ _ (g .e-known) (g .f-known))
     where
       close-number : T (number close32)

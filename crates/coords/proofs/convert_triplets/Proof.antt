@@ -5,7 +5,9 @@ use denote.Ref.{now}
 use lib.ListN.{length, take, drop, set}
 use borrow.Author.Needs.{scaled-fits}
 use Rattle.coords.specs.Arrays.{turned, byTriplets}
-use Rattle.coords.proofs.Triplets.{turn, done, three-there, first-there, second-there, as-long, index-fits, next-fits, next-in, next-less, at-end, in-set, length-sets}
+use native.Mathlib.Nat.{lt-trans}
+use native.Mathlib.Numerals.{add-one-le, add-one-dec}
+use Rattle.coords.proofs.Triplets.{turn, done, three-there, first-there, second-there, as-long, next-fits, at-end, in-set, length-sets}
 use Rattle.coords.proofs.convert_triplets.Statement.{statement}
 use Rattle.coords.proofs.convert_triplets.Tie as tie
 
@@ -43,7 +45,7 @@ turn-triplet-requires c κs = tt
 mul-at : tie.Need-mul-at Inv-loop μ-loop
 mul-at c =
     let l = c .before .before .before in
-    index-fits (at l) (len l) (first-there (at l) (len l) (given l)) (l .before .before .before .good .1 .0 .0)
+    record { fits = lt-trans (first-there (at l) (len l) (given l)) (l .before .before .before .good .1 .0 .0) }
 
 mul-values : tie.Need-mul-values Inv-loop μ-loop
 mul-values c =
@@ -56,7 +58,7 @@ slice-write-values c = let l = c .before .before .before in first-there (at l) (
 add-values : tie.Need-add-values Inv-loop μ-loop
 add-values c =
     let l = c .before .before .before in
-    index-fits (at l + 1) (len l) (second-there (at l) (len l) (given l)) (l .before .before .before .good .1 .0 .0)
+    record { fits = lt-trans (second-there (at l) (len l) (given l)) (l .before .before .before .good .1 .0 .0) }
 
 mul-values-2 : tie.Need-mul-values-2 Inv-loop μ-loop
 mul-values-2 c =
@@ -72,7 +74,7 @@ slice-write-values-2 c =
 add-values-2 : tie.Need-add-values-2 Inv-loop μ-loop
 add-values-2 c =
     let l = c .before .before .before in
-    index-fits (at l + 2) (len l) (given l) (l .before .before .before .good .1 .0 .0)
+    record { fits = lt-trans (given l) (l .before .before .before .good .1 .0 .0) }
 
 mul-values-3 : tie.Need-mul-values-3 Inv-loop μ-loop
 mul-values-3 c =
@@ -94,7 +96,7 @@ add-place c =
 loop-less : tie.Need-loop-less Inv-loop μ-loop
 loop-less c =
     let l = c .before .before .before in
-    next-less (l .before .loop .place) (len l / 3) (l .loop-test .taken)
+    add-one-dec (len l / 3) (l .before .loop .place) (l .loop-test .taken)
 
 loop-again : tie.Need-loop-again Inv-loop μ-loop
 loop-again c =
@@ -102,7 +104,7 @@ loop-again c =
     let xs = l .before .loop .values in
     let t = c .turn-triplet .result in
     let f = turned (l .before .before .before .args .kind) in (
-      next-in (l .before .loop .place) (len l / 3) (l .loop-test .taken),
+      add-one-le (l .loop-test .taken),
       length-sets xs (at l) (at l + 1) (at l + 2) (t .x) (t .y) (t .z) ∙ l .before .loop .inv .1,
       turn f xs (l .before .loop .place) (there l) t (c .turn-triplet .ensures ∙ ap f (c .before .point-at .ensures)) _ refl ∙ l .before .loop .inv .2,
     )

@@ -2,7 +2,8 @@
 use denote.Ref.{now}
 use lib.Ieee.{ofBits}
 use Rattle.interpolate.specs.Blend.{delayAt}
-use Rattle.interpolate.proofs.Laws.{weighed1, weighed2, weighed3, weighed4, four-left}
+use Rattle.mix.proofs.Laws.{four-left}
+use Rattle.interpolate.proofs.Laws.{weighed1, weighed2, weighed3, weighed4}
 use Rattle.interpolate.proofs.weighed.Statement.{statement}
 use Rattle.interpolate.proofs.weighed.Tie as tie
 

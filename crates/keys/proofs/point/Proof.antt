@@ -6,7 +6,8 @@ use Prim.Native.Nat.{_≤_}
 use lib.ListN.{length}
 use denote.Ref.{now}
 use Rattle.text.proofs.Reading.{measured}
-use Rattle.keys.specs.Keys.{pointIn, pointOf}
+use Rattle.keys.specs.Keys.{pointIn}
+use Rattle.keys.proofs.Laws.{point-in}
 use borrow.Author.Needs.{needs}
 use Rattle.keys.proofs.point.Statement.{statement}
 use Rattle.keys.proofs.point.Tie as tie
@@ -28,8 +29,10 @@ value-at-requires-3 : tie.Need-value-at-requires-3
 value-at-requires-3 c κs = omega (arith, long (c .before .before))
 
 returns : tie.Need-returns
-unfolding pointIn pointOf
-returns c = rw (sym (c .before .before .before .before .values-ok .ensures) ∙ c .before .before .before .if1 .taken) (cc)
+returns c =
+    let t = c .before .before .before in
+    point-in (now (t .before .before .before .args .s)) _ _ _ (sym (t .before .values-ok .ensures) ∙ t .if1 .taken)
+    (c .before .before .value-at .ensures) (c .before .value-at2 .ensures) (c .value-at3 .ensures)
 
 returns-2 : tie.Need-returns-2
 unfolding pointIn

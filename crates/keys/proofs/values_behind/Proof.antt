@@ -3,13 +3,10 @@ use mathlib.Core.Path.{refl, sym, ap, _∙_}
 use lib.ListN.{length}
 use denote.Ref.{now}
 use Rattle.text.proofs.Reading.{begins-length}
-use Rattle.keys.proofs.Laws.{tail}
-use Prim.Native.Nat.{_+_}
-use mathlib.Core.Bool.{_&&_}
+use Rattle.keys.proofs.Laws.{tail, values-fit}
 use mathlib.Core.List.{List}
 use Prim.Native.Nat.{ℕ}
-use lib.Dec.{leb}
-use Rattle.text.specs.Values.{valuesOk, stored}
+use Rattle.text.specs.Values.{stored}
 use Rattle.keys.specs.Keys.{valuesFit}
 use borrow.Author.Needs.{needs}
 use Rattle.keys.proofs.values_behind.Statement.{statement}
@@ -34,13 +31,12 @@ same-length : tie.Need-same-length
 same-length c = search needs
 
 returns : tie.Need-returns
-unfolding valuesFit
 returns c =
     let a = c .before .before .before .before .before .before .before .before .before .before .args in
+    let t = c .before .before .before .before .before in
     let v = c .before .before .values in
     let e = tail (length (now (a .key))) (now (a .line)) in (
-      rw (sym (c .before .before .before .before .before .before .begins-with .ensures) ∙ c .before .before .before .before .before .if1 .taken)
-          (v .ensures .0 ∙ ap (λ (s : List ℕ). valuesOk s (a .n) && leb (a .at + a .n) (length (now (a .out)))) e),
+      values-fit (now (a .key)) (now (a .line)) (a .n) (a .at) (now (a .out)) (v .result) (sym (t .before .begins-with .ensures) ∙ t .if1 .taken) (v .ensures .0),
       v .ensures .1 ∙ ap (λ (s : List ℕ). stored (v .result) s (a .n) (a .at) (now (a .out))) e,
     )
 

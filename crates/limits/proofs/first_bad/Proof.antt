@@ -4,9 +4,10 @@ use Prim.Native.Nat.{ℕ, _≤_, _<_, _-_, zero-le}
 use mathlib.Core.Path.{_≡_, refl, sym, ap, _∙_}
 use lib.ListN.{length, drop, take}
 use denote.Ref.{now}
-use native.Mathlib.Nat.{lt-of-lt-of-le}
+use native.Mathlib.Nat.{le-antisymm, lt-of-lt-of-le, lt-of-le-of-lt}
+use native.Mathlib.Numerals.{add-one-le, add-one-dec}
 use Rattle.limits.specs.Allowed.{badFrom, firstBad, positionOk}
-use Rattle.limits.proofs.Values.{bad-on, bad-here, bad-end, next-fits, next-in, next-less, at-end}
+use Rattle.limits.proofs.Values.{bad-on, bad-here, bad-end}
 use borrow.Author.Needs.{scaled-fits}
 use Rattle.limits.proofs.first_bad.Statement.{statement}
 use Rattle.limits.proofs.first_bad.Tie as tie
@@ -43,18 +44,18 @@ returns c =
 add-i : tie.Need-add-i Inv-loop μ-loop
 add-i c =
     let l = c .before .before .before in
-    next-fits (l .before .loop .i) (l .before .before .before .args .n) (l .loop-test .taken) (l .before .before .before .fits .n .fits)
+    record { fits = lt-of-le-of-lt (add-one-le (l .loop-test .taken)) (l .before .before .before .fits .n .fits) }
 
 loop-less : tie.Need-loop-less Inv-loop μ-loop
 loop-less c =
     let l = c .before .before .before in
-    next-less (l .before .loop .i) (l .before .before .before .args .n) (l .loop-test .taken)
+    add-one-dec (l .before .before .before .args .n) (l .before .loop .i) (l .loop-test .taken)
 
 loop-again : tie.Need-loop-again Inv-loop μ-loop
 loop-again c =
     let l = c .before .before .before .before in
     let a = l .before .before .args in (
-      next-in (l .loop .i) (a .n) (c .before .before .before .loop-test .taken),
+      add-one-le (c .before .before .before .loop-test .taken),
       sym (bad-on (positionOk (a .kind)) (now (a .xs)) (a .n) (l .before .before .pre) (l .loop .i) (c .before .before .before .loop-test .taken) (held (c .before .position-ok .ensures) (c .if1 .left)))
           ∙ l .loop .inv .1,
     )
@@ -63,7 +64,7 @@ returns-2 : tie.Need-returns-2 Inv-loop μ-loop
 returns-2 c =
     let s = c .before .before .before in
     let a = s .args in
-    let e : c .before .loop .i ≡ a .n = at-end (c .before .loop .i) (a .n) (c .before .loop .inv .0) (c .loop-test .left) in
+    let e : c .before .loop .i ≡ a .n = le-antisymm (c .before .loop .inv .0) (c .loop-test .left) in
     sym (bad-end (positionOk (a .kind)) (now (a .xs)) (a .n) (s .pre))
     ∙ sym (ap (λ (j : ℕ). badFrom (positionOk (a .kind)) j (drop j (take (a .n) (now (a .xs))))) e)
     ∙ c .before .loop .inv .1

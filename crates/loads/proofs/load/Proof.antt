@@ -10,7 +10,6 @@ use Rattle.loads.proofs.Ways.{as-long, front, front-fits, refused, room
 use borrow.Author.Needs.{needs}
 use Rattle.loads.proofs.load.Statement.{statement}
 use Rattle.loads.proofs.load.Tie as tie
-use Rattle.loads.proofs.place.Reads as place-reads′
 
 judge-load-requires : tie.Need-judge-load-requires
 judge-load-requires c κs = search needs

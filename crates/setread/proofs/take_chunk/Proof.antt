@@ -1,33 +1,25 @@
 -- `setread::take_chunk` meets its contract. The loop's invariant: what is left of the chunk makes of what is known what the whole chunk does. Assumes nothing.
 use Prim.Native.Nat.{_-_, _≤_, _<_}
-use mathlib.Core.List.{List}
 use native.Mathlib.Omega.{arith}
 use lib.ListN.{length, take, drop}
 use lib.Seq.{length-take-le}
-use lib.Ieee.{Float}
 use mathlib.Core.Path.{_≡_, refl, sym, ap, subst, _∙_}
 use denote.Ref.{now}
 use Rattle.lines.specs.declared.Cut.{Cut}
 use Rattle.lines.specs.Lines.{Within}
 use Rattle.settext.specs.declared.State.{State}
-use Rattle.settext.specs.declared.Step.{Step}
-use Rattle.settext.specs.Lines.{Lists, After, lineOf}
+use Rattle.settext.specs.Lines.{lineOf, plain}
+use Rattle.settext.proofs.Laws.{listed}
 use Rattle.setread.specs.Text.{at, chunkOf, stateOf}
 use Rattle.setread.proofs.Steps.{a-line, no-line, over-now, used-up}
 use borrow.Author.Needs.{needs}
 use Rattle.setread.proofs.take_chunk.Statement.{statement}
 use Rattle.setread.proofs.take_chunk.Tie as tie
 
-abbrev listsOf : List Float → List Float → List Float → Lists
-listsOf p r d = record { positions = p; responses = r; delays = d }
-
-abbrev made : Step → Lists → After
-made t d = record { step = t; lists = d }
-
 abbrev Inv-loop : tie.InvT-loop
 Inv-loop chunk buf₀ positions₀ responses₀ delays₀ at₀ u₀ k₀ buf positions responses delays i u k =
     (i ≤ length chunk) × (u ≤ length buf₀) × (length buf ≡ length buf₀) × (length positions ≡ length positions₀) × (length responses ≡ length responses₀) × (length delays ≡ length delays₀)
-    × (chunkOf (length buf₀) (at k (listsOf positions responses delays) (take u buf)) (drop i chunk) ≡ chunkOf (length buf₀) (at k₀ (listsOf positions₀ responses₀ delays₀) (take u₀ buf₀)) chunk)
+    × (chunkOf (length buf₀) (at k (listed positions responses delays) (take u buf)) (drop i chunk) ≡ chunkOf (length buf₀) (at k₀ (listed positions₀ responses₀ delays₀) (take u₀ buf₀)) chunk)
 
 abbrev μ-loop : tie.MeasureT-loop
 μ-loop chunk buf₀ positions₀ responses₀ delays₀ at₀ u₀ k₀ buf positions responses delays i u k = length chunk - i
@@ -65,7 +57,7 @@ returns : tie.Need-returns Inv-loop μ-loop
 returns c =
     let l = c .before .before .before in
     let a = c .before .before .before .before .before .before .before .before .before .args in
-    let d = listsOf (l .loop .positions) (l .loop .responses) (l .loop .delays) in
+    let d = listed (l .loop .positions) (l .loop .responses) (l .loop .delays) in
     record {
       same = sym (over-now (length (now (a .buf))) (l .loop .k) d (take (l .loop .u) (l .loop .buf)) (drop (l .loop .at) (now (a .chunk))) (sym (c .before .is-bad .ensures) ∙ c .if1 .taken)) ∙ l .loop .inv .6;
       within = omega arith;
@@ -96,19 +88,19 @@ loop-again : tie.Need-loop-again Inv-loop μ-loop
 loop-again c =
     let l = c .before .before .before .before .before .before .before .before .before .before .before .before .before .before .before .before .before .before .before .before .before .before in
     let a = c .before .before .before .before .before .before .before .before .before .before .before .before .before .before .before .before .before .before .before .before .before .before .before .before .before .before .before .before .args in
-    let d = listsOf (l .loop .positions) (l .loop .responses) (l .loop .delays) in
+    let d = listed (l .loop .positions) (l .loop .responses) (l .loop .delays) in
     let n = c .before .before .before .before .before .before .before .before .before .before .before .before .before .before .before .before .before .next-line in
     let t = c .before .before .before .before .before .before .take-line in
     let g = c .before .before .before .before .before .before .before .before .before .before .before .before .before .next .given in
-    let d′ = listsOf (t .last .1 .1 .0) (t .last .1 .1 .1 .0) (t .last .1 .1 .1 .1 .0) in
-    let e : made (t .result) d′ ≡ lineOf (stateOf (l .loop .k)) (take (g .0 .1 .0) (n .last .1 .1 .0)) d = t .ensures ∙ ap (λ (s : State). lineOf s (take (g .0 .1 .0) (n .last .1 .1 .0)) d) (c .before .before .before .before .before .before .before .before .before .before .before .state-of .ensures) in (
+    let d′ = listed (t .last .1 .1 .0) (t .last .1 .1 .1 .0) (t .last .1 .1 .1 .1 .0) in
+    let e : plain (t .result) d′ ≡ lineOf (stateOf (l .loop .k)) (take (g .0 .1 .0) (n .last .1 .1 .0)) d = t .ensures ∙ ap (λ (s : State). lineOf s (take (g .0 .1 .0) (n .last .1 .1 .0)) d) (c .before .before .before .before .before .before .before .before .before .before .before .state-of .ensures) in (
       found (c .before .before .before .before .before .before .before .before .before .before .before .before) .2,
       search needs,
       omega (arith, n .kept .1 .1 .0),
       omega (arith, t .kept .1 .1 .0),
       omega (arith, t .kept .1 .1 .1 .0),
       omega (arith, t .kept .1 .1 .1 .1 .0),
-      sym (a-line (length (now (a .buf))) (l .loop .buf) (n .last .1 .1 .0) (now (a .chunk)) (l .loop .k) d (l .loop .at) (l .loop .u) (n .result) (l .loop .inv .2) (sym (c .before .before .before .before .before .before .before .before .before .before .before .before .before .before .before .before .before .before .before .before .is-bad .ensures) ∙ c .before .before .before .before .before .before .before .before .before .before .before .before .before .before .before .before .before .before .before .if1 .left) (n .ensures .same) (g .0 .0) (g .0 .1 .0) (g .1) (made (t .result) d′) e)
+      sym (a-line (length (now (a .buf))) (l .loop .buf) (n .last .1 .1 .0) (now (a .chunk)) (l .loop .k) d (l .loop .at) (l .loop .u) (n .result) (l .loop .inv .2) (sym (c .before .before .before .before .before .before .before .before .before .before .before .before .before .before .before .before .before .before .before .before .is-bad .ensures) ∙ c .before .before .before .before .before .before .before .before .before .before .before .before .before .before .before .before .before .before .before .if1 .left) (n .ensures .same) (g .0 .0) (g .0 .1 .0) (g .1) (plain (t .result) d′) e)
           ∙ l .loop .inv .6,
     )
 
@@ -131,7 +123,7 @@ returns-2 : tie.Need-returns-2 Inv-loop μ-loop
 returns-2 c =
     let l = c .before .before .before .before .before .before .before .before .before .before in
     let a = c .before .before .before .before .before .before .before .before .before .before .before .before .before .before .before .before .args in
-    let d = listsOf (l .loop .positions) (l .loop .responses) (l .loop .delays) in
+    let d = listed (l .loop .positions) (l .loop .responses) (l .loop .delays) in
     let n = c .before .before .before .before .before .next-line in
     let g = c .before .n .given in
     record {
@@ -155,7 +147,7 @@ returns-3 : tie.Need-returns-3 Inv-loop μ-loop
 returns-3 c =
     let l = c .before in
     let a = c .before .before .before .before .before .before .before .args in
-    let d = listsOf (l .loop .positions) (l .loop .responses) (l .loop .delays) in
+    let d = listed (l .loop .positions) (l .loop .responses) (l .loop .delays) in
     record {
       same = sym (used-up (length (now (a .buf))) (l .loop .k) d (take (l .loop .u) (l .loop .buf)) (now (a .chunk)) (l .loop .at) (omega arith)) ∙ l .loop .inv .6;
       within = omega arith;
