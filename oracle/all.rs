@@ -3,7 +3,7 @@
 //!
 //! all SEED SMALL LARGE [list]: prints the first twenty differences, with `list` each of them, and one line of counts.
 //! all SEED QUERIES 0 real FILE: the same over the measured set of FILE (oracle/real.c), by the steps 0.5 and 0.01.
-//! all SEED SETS 0 sample: writes the records that crates/replay asks the port again (sample.rs).
+//! all SEED SETS 0 sample: writes the records that crates/try_replay asks the port again (sample.rs).
 
 mod port;
 mod real;

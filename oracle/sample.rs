@@ -1,4 +1,4 @@
-//! Small sets with the answers that are due, for crates/replay: the source's answers, and document 01's refusals where a set or a query is outside its limits.
+//! Small sets with the answers that are due, for crates/try_replay: the source's answers, and document 01's refusals where a set or a query is outside its limits.
 //! Nothing here asks the port but for its angles, through the redirected source.
 //!
 //! A record is a line of words, each eight hexadecimal digits; the first says how many follow. In order: kind, m, c, r, n; how many positions, taps and delays;

@@ -15,12 +15,12 @@ use Rattle.angles.proofs.Cert.{top-of, body}
 use Rattle.angle_laws.specs.Angle.{C, Ratio, S, sine, cosine}
 use Rattle.angle_laws.proofs.Placed.{placed}
 use Rattle.sines.specs.Sines.{plusZero}
-use Rattle.angles.specs.Arc.{pi32, magf, certOf, gridTest, ratioOf, arcSteps, bestSteps}
+use Rattle.angles.specs.Arc.{signedPi32, magf, certOf, gridTest, ratioOf, arcSteps, bestSteps}
 use Rattle.angle_laws.specs.Asked.{IsArc}
 use Rattle.angles.proofs.Ratio.{Slope, half-turn, Quotient, quotient}
 use Rattle.angle_laws.proofs.Line.{Line}
 use Rattle.angle_laws.proofs.Certify.{by-grid}
-use Rattle.angles.specs.Guess.{num, plus, less, times, over, tailOf, raisedOf, loweredOf, atanLow, atanHigh, atanGuess, arcGuess}
+use Rattle.angles.specs.Guess.{num32, plus32, less32, times32, over32, tailOf, raisedOf, loweredOf, atanLow, atanHigh, atanGuess, arcGuess}
 use Rattle.angles.proofs.Sides.{lt-zero, mag-pos, div-fin, le-true, le-false, zero-lt, mag-zero, le-zero}
 use Rattle.angle_laws.proofs.Arcs.{any-sign}
 
@@ -28,9 +28,9 @@ cond-1 : (a b : Bool) → T (cond a b false) → (a ≡ true) × T b
 cond-1 true b t = (refl, t)
 cond-1 false b t = absurd t
 
-cert-open : (back : Bool) (py px : ℕ) (c : Float) → T (certOf back py px c) → (le c (pi32 false) ≡ true) × T (gridTest back py px (places 40 c))
+cert-open : (back : Bool) (py px : ℕ) (c : Float) → T (certOf back py px c) → (le c (signedPi32 false) ≡ true) × T (gridTest back py px (places 40 c))
 unfolding certOf
-cert-open back py px c t = cond-1 (le c (pi32 false)) (gridTest back py px (places 40 c)) t
+cert-open back py px c t = cond-1 (le c (signedPi32 false)) (gridTest back py px (places 40 c)) t
 
 -- an angle from +0 to the f32 nearest π
 record Good (c : Float) : Type 0 where
@@ -39,7 +39,7 @@ record Good (c : Float) : Type 0 where
   pub is : c ≡ fin false m e
   pub top : m * up e * 4194304 ≤ 13176795 * down e
 
-good : (g : Float) → le (magf g) (pi32 false) ≡ true → Good (magf g)
+good : (g : Float) → le (magf g) (signedPi32 false) ≡ true → Good (magf g)
 unfolding lt le eq magf neg
 good nan h = absurd (true≢false (sym h))
 good (inf true) h = absurd (true≢false (sym h))
@@ -47,7 +47,7 @@ good (inf false) h = absurd (true≢false (sym h))
 good (fin s zero d) h = record { m = 0; e = pos 0; is = mag-zero s d; top = lit≤ tt }
 good (fin s (suc m) d) h =
     let e = mag-pos s (suc m) d (zero-lt-suc m) in
-    record { m = suc m; e = d; is = e; top = top-of (suc m) d (sym (ap (λ (z : Float). le z (pi32 false)) e) ∙ h) }
+    record { m = suc m; e = d; is = e; top = top-of (suc m) d (sym (ap (λ (z : Float). le z (signedPi32 false)) e) ∙ h) }
 
 narrower : (n d : ℕ) → n * 4194304 ≤ 13176795 * d → n ≤ 16 * d
 narrower n d h = omega arith
@@ -84,43 +84,43 @@ mag-fits x f = cond-fits binary32 (lt x plusZero) (neg x) (cond (eq x plusZero) 
 
 low-fits : (x : Float) → T (fits binary32 x) → T (fits binary32 (atanLow x))
 unfolding atanLow
-low-fits x f = cond-fits binary32 (lt x (num 822083584)) x (less x (times x (tailOf x))) f (sub-fits binary32 x (times x (tailOf x)))
+low-fits x f = cond-fits binary32 (lt x (num32 822083584)) x (less32 x (times32 x (tailOf x))) f (sub-fits binary32 x (times32 x (tailOf x)))
 
 raised-fits : (h l u : Float) → T (fits binary32 (raisedOf h l u))
 unfolding raisedOf
-raised-fits h l u = sub-fits binary32 h (less (less (times u (tailOf u)) l) u)
+raised-fits h l u = sub-fits binary32 h (less32 (less32 (times32 u (tailOf u)) l) u)
 
 lowered-fits : (t : Float) → T (fits binary32 (loweredOf t))
 unfolding loweredOf
-lowered-fits t = sub-fits binary32 (num 1070141402) (less t (plus (times t (tailOf t)) (num 866263400)))
+lowered-fits t = sub-fits binary32 (num32 1070141402) (less32 t (plus32 (times32 t (tailOf t)) (num32 866263400)))
 
 high-fits : (x : Float) → T (fits binary32 (atanHigh x))
 unfolding atanHigh
 high-fits x =
-    let u1 = over (less (times (num 1073741824) x) (num 1065353216)) (plus (num 1073741824) x) in
-    let u2 = over (less x (num 1065353216)) (plus x (num 1065353216)) in
-    let u3 = over (less x (num 1069547520)) (plus (num 1065353216) (times (num 1069547520) x)) in
-    let r1 = raisedOf (num 1055744824) (num 833369961) u1 in
-    let r2 = raisedOf (num 1061752794) (num 857874792) u2 in
-    let r3 = raisedOf (num 1065064542) (num 856952756) u3 in
-    let r4 = loweredOf (over (num 1065353216) x) in
-    let c4 = cond (lt x (num 1275068416)) r4 (num 1070141403) in
-    let c3 = cond (lt x (num 1075576832)) r3 c4 in
-    let c2 = cond (lt x (num 1066926080)) r2 c3 in
-    cond-fits binary32 (lt x (num 1060110336)) r1 c2 (raised-fits (num 1055744824) (num 833369961) u1)
-    (cond-fits binary32 (lt x (num 1066926080)) r2 c3 (raised-fits (num 1061752794) (num 857874792) u2)
-    (cond-fits binary32 (lt x (num 1075576832)) r3 c4 (raised-fits (num 1065064542) (num 856952756) u3)
-    (cond-fits binary32 (lt x (num 1275068416)) r4 (num 1070141403) (lowered-fits (over (num 1065353216) x)) (ofBits-fits binary32 1070141403))))
+    let u1 = over32 (less32 (times32 (num32 1073741824) x) (num32 1065353216)) (plus32 (num32 1073741824) x) in
+    let u2 = over32 (less32 x (num32 1065353216)) (plus32 x (num32 1065353216)) in
+    let u3 = over32 (less32 x (num32 1069547520)) (plus32 (num32 1065353216) (times32 (num32 1069547520) x)) in
+    let r1 = raisedOf (num32 1055744824) (num32 833369961) u1 in
+    let r2 = raisedOf (num32 1061752794) (num32 857874792) u2 in
+    let r3 = raisedOf (num32 1065064542) (num32 856952756) u3 in
+    let r4 = loweredOf (over32 (num32 1065353216) x) in
+    let c4 = cond (lt x (num32 1275068416)) r4 (num32 1070141403) in
+    let c3 = cond (lt x (num32 1075576832)) r3 c4 in
+    let c2 = cond (lt x (num32 1066926080)) r2 c3 in
+    cond-fits binary32 (lt x (num32 1060110336)) r1 c2 (raised-fits (num32 1055744824) (num32 833369961) u1)
+    (cond-fits binary32 (lt x (num32 1066926080)) r2 c3 (raised-fits (num32 1061752794) (num32 857874792) u2)
+    (cond-fits binary32 (lt x (num32 1075576832)) r3 c4 (raised-fits (num32 1065064542) (num32 856952756) u3)
+    (cond-fits binary32 (lt x (num32 1275068416)) r4 (num32 1070141403) (lowered-fits (over32 (num32 1065353216) x)) (ofBits-fits binary32 1070141403))))
 
 atan-fits : (x : Float) → T (fits binary32 x) → T (fits binary32 (atanGuess x))
 unfolding atanGuess
-atan-fits x f = cond-fits binary32 (lt x (num 1054867456)) (atanLow x) (atanHigh x) (low-fits x f) (high-fits x)
+atan-fits x f = cond-fits binary32 (lt x (num32 1054867456)) (atanLow x) (atanHigh x) (low-fits x f) (high-fits x)
 
 guess-fits : (back : Bool) (p s : Float) → T (fits binary32 (magf (arcGuess back p s)))
 unfolding arcGuess
 guess-fits back p s =
-    let z = atanGuess (over p s) in
-    mag-fits (arcGuess back p s) (cond-fits binary32 back (less (num 1078530011) (plus z (num 867941678))) z (sub-fits binary32 (num 1078530011) (plus z (num 867941678))) (atan-fits (over p s) (div-fits binary32 p s)))
+    let z = atanGuess (over32 p s) in
+    mag-fits (arcGuess back p s) (cond-fits binary32 back (less32 (num32 1078530011) (plus32 z (num32 867941678))) z (sub-fits binary32 (num32 1078530011) (plus32 z (num32 867941678))) (atan-fits (over32 p s) (div-fits binary32 p s)))
 
 same-slope : (a c : ℕ) → a ≡ c → Slope 2147483648 a c 520
 same-slope a c e = record { low = lo; high = hi }

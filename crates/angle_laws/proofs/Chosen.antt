@@ -13,7 +13,7 @@ use Rattle.sines.specs.Steps.{xor, scan}
 use Rattle.sines.specs.Sines.{half, odd, restOf, sinPoly, cosPoly, sinValue, sinMinus, cosValue, cosMinus, single, sinFrom, cosFrom}
 use Rattle.sines.proofs.Scan.{found}
 use Rattle.angle_laws.specs.Series.{sinTop, sinBot, cosTop, cosBot}
-use Rattle.angle_laws.specs.Angle.{turn, restTop, restBot, restNeg, pickS, pickC, sine, cosine, within}
+use Rattle.angle_laws.specs.Angle.{turn, restTop, restBot, restNeg, pickS, pickC, sine, cosine, closeTo}
 use Rattle.angle_laws.proofs.Nested.{sin-nested, cos-nested, sin-bot, cos-bot, top-le}
 use Rattle.angle_laws.proofs.Line.{sin-bot-pos, cos-bot-pos}
 use Rattle.angle_laws.proofs.Polys.{sin-about, cos-about}
@@ -32,13 +32,13 @@ abbrev turned : Bool → ℕ → ℕ
 turned f j = cond f ((4 - j) % 4) j
 
 module _ (w : Float) (R D : ℕ) (dp : 0 < D) (rd : R ≤ D) (un : R * 1000 ≤ 786 * D) (r : Rested w R D) where
-  near-s : (s : Bool) → within 1048576 (single s (sinPoly w)) (ratio s (sinTop R D) (sinBot D))
-  near-s s = subst (λ (z : Float). within 1048576 (single s z) (ratio s (sinTop R D) (sinBot D))) (sym (r .sin-same)) (near-single (sinPoly (r .v)) (sinTop R D) (sinBot D) 2983 (sin-bot-pos D dp) (sin-le R D rd) (le-refl 2983) (sin-about (r .v) R D dp un (r .about) (r .fit)) s)
+  near-s : (s : Bool) → closeTo 1048576 (single s (sinPoly w)) (ratio s (sinTop R D) (sinBot D))
+  near-s s = subst (λ (z : Float). closeTo 1048576 (single s z) (ratio s (sinTop R D) (sinBot D))) (sym (r .sin-same)) (near-single (sinPoly (r .v)) (sinTop R D) (sinBot D) 2983 (sin-bot-pos D dp) (sin-le R D rd) (le-refl 2983) (sin-about (r .v) R D dp un (r .about) (r .fit)) s)
 
-  near-c : (s : Bool) → within 1048576 (single s (cosPoly w)) (ratio s (cosTop R D) (cosBot D))
-  near-c s = subst (λ (z : Float). within 1048576 (single s z) (ratio s (cosTop R D) (cosBot D))) (sym (r .cos-same)) (near-single (cosPoly (r .v)) (cosTop R D) (cosBot D) 444 (cos-bot-pos D dp) (cos-le R D rd) (lit≤ tt) (cos-about (r .v) R D dp un (r .about)) s)
+  near-c : (s : Bool) → closeTo 1048576 (single s (cosPoly w)) (ratio s (cosTop R D) (cosBot D))
+  near-c s = subst (λ (z : Float). closeTo 1048576 (single s z) (ratio s (cosTop R D) (cosBot D))) (sym (r .cos-same)) (near-single (cosPoly (r .v)) (cosTop R D) (cosBot D) 444 (cos-bot-pos D dp) (cos-le R D rd) (lit≤ tt) (cos-about (r .v) R D dp un (r .about)) s)
 
-  choose-s : (f s : Bool) (j : ℕ) → j < 4 → within 1048576 (single (xor f (sinMinus j s)) (sinValue j w)) (pickS (turned f j) (xor f s) R D)
+  choose-s : (f s : Bool) (j : ℕ) → j < 4 → closeTo 1048576 (single (xor f (sinMinus j s)) (sinValue j w)) (pickS (turned f j) (xor f s) R D)
   choose-s true true zero h = near-s false
   choose-s true true (suc zero) h = near-c true
   choose-s true true (suc (suc zero)) h = near-s true
@@ -60,7 +60,7 @@ module _ (w : Float) (R D : ℕ) (dp : 0 < D) (rd : R ≤ D) (un : R * 1000 ≤ 
       no : (j : ℕ) → suc (suc (suc (suc j))) < 4 → ⊥
       no j h = omega arith
 
-  choose-c : (f s : Bool) (j : ℕ) → j < 4 → within 1048576 (single (cosMinus j s) (cosValue j w)) (pickC (turned f j) (xor f s) R D)
+  choose-c : (f s : Bool) (j : ℕ) → j < 4 → closeTo 1048576 (single (cosMinus j s) (cosValue j w)) (pickC (turned f j) (xor f s) R D)
   choose-c true true zero h = near-c false
   choose-c true true (suc zero) h = near-s false
   choose-c true true (suc (suc zero)) h = near-c true
@@ -102,7 +102,7 @@ module _ (m : ℕ) (e : ℤ) (fit : T (fits binary32 (fin false m e))) (hi : m *
   pos-bot : 0 < restBot (down e)
   pos-bot = native.Mathlib.Nat.mul-pos {m = 200000000000000000000} (lib.Dec.lit< tt) (down-pos e)
 
-  pub sin-from : within 1048576 (sinFrom f (fin false m e)) (sine f (m * up e) (down e))
+  pub sin-from : closeTo 1048576 (sinFrom f (fin false m e)) (sine f (m * up e) (down e))
   unfolding sinFrom sine at
   sin-from =
       let q = scan 20 0 (places 40 (fin false m e)) in
@@ -110,11 +110,11 @@ module _ (m : ℕ) (e : ℤ) (fit : T (fits binary32 (fin false m e))) (hi : m *
       let d = down e in
       let w = restOf q (fin false m e) in
       let r = got in
-      subst (λ (k : ℕ). within 1048576 (single (xor f (sinMinus (half q % 4) (odd q))) (sinValue (half q % 4) w)) (pickS (turn f k) (restNeg f k n d) (restTop k n d) (restBot d))) (sym (r .is))
-      (subst (λ (b : Bool). within 1048576 (single (xor f (sinMinus (half q % 4) (odd q))) (sinValue (half q % 4) w)) (pickS (turn f (half q)) (xor f b) (restTop (half q) n d) (restBot d))) (sym (r .sign))
+      subst (λ (k : ℕ). closeTo 1048576 (single (xor f (sinMinus (half q % 4) (odd q))) (sinValue (half q % 4) w)) (pickS (turn f k) (restNeg f k n d) (restTop k n d) (restBot d))) (sym (r .is))
+      (subst (λ (b : Bool). closeTo 1048576 (single (xor f (sinMinus (half q % 4) (odd q))) (sinValue (half q % 4) w)) (pickS (turn f (half q)) (xor f b) (restTop (half q) n d) (restBot d))) (sym (r .sign))
       (choose-s w (restTop (half q) n d) (restBot d) pos-bot (r .proper) (r .under) (rested m e hi q few) f (odd q) (half q % 4) (mod4 (half q))))
 
-  pub cos-from : within 1048576 (cosFrom (fin false m e)) (cosine f (m * up e) (down e))
+  pub cos-from : closeTo 1048576 (cosFrom (fin false m e)) (cosine f (m * up e) (down e))
   unfolding cosFrom cosine at
   cos-from =
       let q = scan 20 0 (places 40 (fin false m e)) in
@@ -122,6 +122,6 @@ module _ (m : ℕ) (e : ℤ) (fit : T (fits binary32 (fin false m e))) (hi : m *
       let d = down e in
       let w = restOf q (fin false m e) in
       let r = got in
-      subst (λ (k : ℕ). within 1048576 (single (cosMinus (half q % 4) (odd q)) (cosValue (half q % 4) w)) (pickC (turn f k) (restNeg f k n d) (restTop k n d) (restBot d))) (sym (r .is))
-      (subst (λ (b : Bool). within 1048576 (single (cosMinus (half q % 4) (odd q)) (cosValue (half q % 4) w)) (pickC (turn f (half q)) (xor f b) (restTop (half q) n d) (restBot d))) (sym (r .sign))
+      subst (λ (k : ℕ). closeTo 1048576 (single (cosMinus (half q % 4) (odd q)) (cosValue (half q % 4) w)) (pickC (turn f k) (restNeg f k n d) (restTop k n d) (restBot d))) (sym (r .is))
+      (subst (λ (b : Bool). closeTo 1048576 (single (cosMinus (half q % 4) (odd q)) (cosValue (half q % 4) w)) (pickC (turn f (half q)) (xor f b) (restTop (half q) n d) (restBot d))) (sym (r .sign))
       (choose-c w (restTop (half q) n d) (restBot d) pos-bot (r .proper) (r .under) (rested m e hi q few) f (odd q) (half q % 4) (mod4 (half q))))

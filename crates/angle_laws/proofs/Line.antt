@@ -15,7 +15,7 @@ use Rattle.angles.proofs.Seek.{sought}
 use Rattle.angles.proofs.Ratio.{Slope}
 use Rattle.angle_laws.proofs.Octant.{residual, cos-positive}
 use Rattle.angle_laws.proofs.Place.{placed, angle-here, angle-next}
-use Rattle.angle_laws.specs.Asked.{onLine, forward}
+use Rattle.angle_laws.specs.Asked.{nearLine, forward}
 use Rattle.angles.specs.Arc.{eighthOf}
 
 pos-pow : (D n : ℕ) → 0 < D → 0 < D ^ n
@@ -110,7 +110,7 @@ module _ (f : Bool) (o t a c n d : ℕ) (ho : o < 4) (dp : 0 < d) (sl : Slope t 
   c-is = cosine-at f n d (place o (seek 24 t 0 13176795) * 65536) o red
 
 abbrev pub Line : Bool → ℕ → ℕ → Bool → ℕ → ℕ → Ratio → Ratio → Type 0
-Line sy ny dy sx nx dx s c = onLine sy ny dy sx nx dx s c × forward sy ny dy sx nx dx s c
+Line sy ny dy sx nx dx s c = nearLine sy ny dy sx nx dx s c × forward sy ny dy sx nx dx s c
 
 pub eighth-lt : (b s : Bool) → eighthOf b s < 4
 eighth-lt true true = lit< tt

@@ -18,7 +18,7 @@ use Rattle.sines.specs.Sines.{plusZero, single}
 use Rattle.angles.proofs.Rounding.{Off, grid-off, rounded}
 use borrow.Author.Tests.{ltb-false}
 use Rattle.angles.proofs.Sides.{le-false}
-use Rattle.angle_laws.specs.Angle.{Ratio, within}
+use Rattle.angle_laws.specs.Angle.{Ratio, closeTo}
 use Rattle.angle_laws.proofs.About.{K, About, chain-low, chain-high}
 
 abbrev pub ratio : Bool → ℕ → ℕ → Ratio
@@ -33,8 +33,8 @@ eight : (x y z : ℕ) → x * 8388608 ≤ y * 8388608 + 7 * z → y * 8388608 �
 eight x y z a b = omega arith
 
 -- the rounded value g / 2^149 of A / B, where that is about t / b
-near-value : (y : Float) (s : Bool) (g A B t b : ℕ) → 0 < B → HasValue y false g (2 ^ 149) → Off (g * B) (A * 2 ^ 149) (2 ^ 126 * B) → A * b * K ≤ t * B * K + 2983 * (B * b) → t * B * K ≤ A * b * K + 2983 * (B * b) → within 1048576 (cond s (neg y) y) (ratio s t b)
-unfolding within neg
+near-value : (y : Float) (s : Bool) (g A B t b : ℕ) → 0 < B → HasValue y false g (2 ^ 149) → Off (g * B) (A * 2 ^ 149) (2 ^ 126 * B) → A * b * K ≤ t * B * K + 2983 * (B * b) → t * B * K ≤ A * b * K + 2983 * (B * b) → closeTo 1048576 (cond s (neg y) y) (ratio s t b)
+unfolding closeTo neg
 near-value nan s g A B t b bp v o lo hi = absurd v
 near-value (inf r) s g A B t b bp v o lo hi = absurd v
 near-value (fin true m e) s g A B t b bp v o lo hi = absurd (true≢false (v .0))
@@ -49,13 +49,13 @@ near-value (fin false m e) s g A B t b bp v o lo hi = go s
     fin' : dist (m * up e * b) (t * down e) * 1048576 ≤ down e * b
     fin' = eight (m * up e * b) (t * down e) (down e * b) low high
 
-    go : (s : Bool) → within 1048576 (cond s (neg (fin false m e)) (fin false m e)) (ratio s t b)
+    go : (s : Bool) → closeTo 1048576 (cond s (neg (fin false m e)) (fin false m e)) (ratio s t b)
     go true = fin'
     go false = fin'
 
 -- +0, where the fraction is less than 2984 units
-near-zero : (s : Bool) (t b : ℕ) → t * K ≤ 2984 * b → within 1048576 plusZero (ratio s t b)
-unfolding within
+near-zero : (s : Bool) (t b : ℕ) → t * K ≤ 2984 * b → closeTo 1048576 plusZero (ratio s t b)
+unfolding closeTo
 near-zero true t b h = go t b h
   where
     go : (t b : ℕ) → t * K ≤ 2984 * b → (0 * b + t * 1) * 1048576 ≤ 1 * b
@@ -67,9 +67,9 @@ near-zero false t b h = go t b h
 
 module _ (m : ℕ) (x : ℤ) (t b : ℕ) (bp : 0 < b) (tb : t ≤ b) (lo : m * up x * b * K ≤ t * down x * K + 2983 * (down x * b)) (hi : t * down x * K ≤ m * up x * b * K + 2983 * (down x * b)) where
   -- below 2: rounded
-  kept : (s : Bool) → m * up x < 2 * down x → within 1048576 (narrowed s (fin false m x)) (ratio s t b)
+  kept : (s : Bool) → m * up x < 2 * down x → closeTo 1048576 (narrowed s (fin false m x)) (ratio s t b)
   unfolding narrowed
-  kept s l = subst (λ (y : Float). within 1048576 y (ratio s t b)) (sgn s)
+  kept s l = subst (λ (y : Float). closeTo 1048576 y (ratio s t b)) (sgn s)
       (near-value (round binary32 false (m * up x) (down x)) s (grid binary32 (m * up x) (down x)) (m * up x) (down x) t b (down-pos x) (rounded (m * up x) (down x) 126 (down-pos x) l2 (lit≤ tt)) (grid-off binary32 (m * up x) (down x) 126 (down-pos x) l2) lo hi)
     where
       l2 : m * up x * 2 ^ 149 < 2 ^ 150 * down x
@@ -117,7 +117,7 @@ module _ (m : ℕ) (x : ℤ) (t b : ℕ) (bp : 0 < b) (tb : t ≤ b) (lo : m * u
           add : A * b * K ≤ B * b → A * b * K + 2983 * (B * b) ≤ B * b + 2983 * (B * b)
           add h = add-le-add h (le-refl (2983 * (B * b)))
 
-  pub near-fin : (s : Bool) → within 1048576 (single s (fin false m x)) (ratio s t b)
+  pub near-fin : (s : Bool) → closeTo 1048576 (single s (fin false m x)) (ratio s t b)
   unfolding single
   near-fin s = go (le (fin false 1 (negsuc 59)) (fin false m x)) (lt (fin false m x) (fin false 1 (pos 1))) refl refl
     where
@@ -127,14 +127,14 @@ module _ (m : ℕ) (x : ℤ) (t b : ℕ) (bp : 0 < b) (tb : t ≤ b) (lo : m * u
       above : lt (fin false m x) (fin false 1 (pos 1)) ≡ false → 2 * down x ≤ m * up x
       above h = unfold lt in le-trans (ltb-false (m * up x * 1) (2 * down x) h) (le-of-eq (mul-one (m * up x)))
 
-      go : (p q : Bool) → le (fin false 1 (negsuc 59)) (fin false m x) ≡ p → lt (fin false m x) (fin false 1 (pos 1)) ≡ q → within 1048576 (cond p (cond q (narrowed s (fin false m x)) plusZero) plusZero) (ratio s t b)
+      go : (p q : Bool) → le (fin false 1 (negsuc 59)) (fin false m x) ≡ p → lt (fin false m x) (fin false 1 (pos 1)) ≡ q → closeTo 1048576 (cond p (cond q (narrowed s (fin false m x)) plusZero) plusZero) (ratio s t b)
       go true true h k = kept s (below k)
       go true false h k = absurd (never (above k))
       go false q h k = near-zero s t b (tiny (le-false 1 (negsuc 59) m x h))
 
-pub near-single : (v : Float) (t b e : ℕ) → 0 < b → t ≤ b → e ≤ 2983 → About v t b e → (s : Bool) → within 1048576 (single s v) (ratio s t b)
+pub near-single : (v : Float) (t b e : ℕ) → 0 < b → t ≤ b → e ≤ 2983 → About v t b e → (s : Bool) → closeTo 1048576 (single s v) (ratio s t b)
 near-single v t b e bp tb el a s =
-    subst (λ (y : Float). within 1048576 (single s y) (ratio s t b)) (sym (a .is))
+    subst (λ (y : Float). closeTo 1048576 (single s y) (ratio s t b)) (sym (a .is))
     (near-fin (a .m) (a .x') t b bp tb
     (le-trans (a .low) (add-le-add (le-refl (t * down (a .x') * K)) (mul-le-mul-right (down (a .x') * b) el)))
     (le-trans (a .high) (add-le-add (le-refl (a .m * up (a .x') * b * K)) (mul-le-mul-right (down (a .x') * b) el))) s)

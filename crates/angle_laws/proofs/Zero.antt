@@ -10,7 +10,7 @@ use lib.IntN.{ℤ}
 use lib.Ieee.Fits.{down-pos, up-pos}
 use lib.Ieee.Scale.{finite}
 use Rattle.sines.specs.Steps.{dist, xor}
-use Rattle.angles.specs.Arc.{minusSize, pi32, behindOf, bestSteps, arctanSteps}
+use Rattle.angles.specs.Arc.{minusSize, signedPi32, behindOf, bestSteps, arctanSteps}
 use Rattle.angle_laws.specs.Asked.{plusPositive, IsArc, Arctan}
 use Rattle.angle_laws.specs.Series.{sinTop, sinBot, cosTop, cosBot}
 use Rattle.angle_laws.specs.Angle.{sine, cosine, Ratio, S, C, pickS, pickC, piBot, turn}
@@ -84,7 +84,7 @@ unfolding cosine
 pi-neg true = refl
 pi-neg false = refl
 
-back : (sy : Bool) (ey : ℤ) (mx : ℕ) (ex : ℤ) → 0 < mx → IsArc (fin sy 0 ey) (fin true mx ex) (pi32 sy)
+back : (sy : Bool) (ey : ℤ) (mx : ℕ) (ex : ℤ) → 0 < mx → IsArc (fin sy 0 ey) (fin true mx ex) (signedPi32 sy)
 unfolding IsArc S C
 back sy ey mx ex xp = (
   zero-on (xor sy (c .neg)) (xor true (s .neg)) (0 * up ey * down ex) (mx * up ex * down ey) (s .top) (s .bot) (c .top) (c .bot) (nothing (up ey) (down ex)) (pi-sin sy),
@@ -187,19 +187,19 @@ behind-is s zero e = ap₂ (λ (a b : Bool). cond a true (cond b (lt (div binary
 behind-is true (suc m) e = ap (λ (a : Bool). cond a true (cond (eq (fin true (suc m) e) plusZero) (lt (div binary32 one (fin true (suc m) e)) plusZero) false)) (lt-zero true (suc m) e (zero-lt-suc m))
 behind-is false (suc m) e = ap₂ (λ (a b : Bool). cond a true (cond b (lt (div binary32 one (fin false (suc m) e)) plusZero) false)) (lt-zero false (suc m) e (zero-lt-suc m)) (not-zero false (suc m) e (zero-lt-suc m))
 
-zero-steps : (sy : Bool) (ey : ℤ) (sx : Bool) (mx : ℕ) (ex : ℤ) → arctanSteps (fin sy 0 ey) (fin sx mx ex) ≡ cond sx (pi32 sy) (fin sy 0 ey)
+zero-steps : (sy : Bool) (ey : ℤ) (sx : Bool) (mx : ℕ) (ex : ℤ) → arctanSteps (fin sy 0 ey) (fin sx mx ex) ≡ cond sx (signedPi32 sy) (fin sy 0 ey)
 unfolding arctanSteps neg
 zero-steps sy ey sx mx ex =
-    ap₂ (λ (a b : Bool). cond a (cond b (cond (lt (div binary32 one (fin sy 0 ey)) plusZero) (pi32 true) (pi32 false)) (fin sy 0 ey)) (bestSteps (fin sy 0 ey) (fin sx mx ex))) (is-zero sy ey) (behind-is sx mx ex)
-    ∙ ap (λ (c : Bool). cond sx (cond c (pi32 true) (pi32 false)) (fin sy 0 ey)) (below-one sy ey) ∙ go sy
+    ap₂ (λ (a b : Bool). cond a (cond b (cond (lt (div binary32 one (fin sy 0 ey)) plusZero) (signedPi32 true) (signedPi32 false)) (fin sy 0 ey)) (bestSteps (fin sy 0 ey) (fin sx mx ex))) (is-zero sy ey) (behind-is sx mx ex)
+    ∙ ap (λ (c : Bool). cond sx (cond c (signedPi32 true) (signedPi32 false)) (fin sy 0 ey)) (below-one sy ey) ∙ go sy
   where
-    go : (s : Bool) → cond sx (cond s (pi32 true) (pi32 false)) (fin sy 0 ey) ≡ cond sx (pi32 s) (fin sy 0 ey)
+    go : (s : Bool) → cond sx (cond s (signedPi32 true) (signedPi32 false)) (fin sy 0 ey) ≡ cond sx (signedPi32 s) (fin sy 0 ey)
     go true = refl
     go false = refl
 
 other-steps : (sy : Bool) (my : ℕ) (ey : ℤ) (x : Float) → 0 < my → arctanSteps (fin sy my ey) x ≡ bestSteps (fin sy my ey) x
 unfolding arctanSteps
-other-steps sy my ey x h = ap (λ (a : Bool). cond a (cond (behindOf x) (cond (lt (div binary32 one (fin sy my ey)) plusZero) (neg (pi32 false)) (pi32 false)) (fin sy my ey)) (bestSteps (fin sy my ey) x)) (not-zero sy my ey h)
+other-steps sy my ey x h = ap (λ (a : Bool). cond a (cond (behindOf x) (cond (lt (div binary32 one (fin sy my ey)) plusZero) (neg (signedPi32 false)) (signedPi32 false)) (fin sy my ey)) (bestSteps (fin sy my ey) x)) (not-zero sy my ey h)
 
 -- ---- the whole
 whole : (sy : Bool) (my : ℕ) (ey : ℤ) (sx : Bool) (mx : ℕ) (ex : ℤ) → Arctan (fin sy my ey) (fin sx mx ex) (arctanSteps (fin sy my ey) (fin sx mx ex))
@@ -209,7 +209,7 @@ whole sy zero ey sx mx ex = (λ (z : _≡_ {A = ℕ} 0 0). zero-steps sy ey sx m
     up-from : (m : ℕ) → (0 + m ≡ 0 → ⊥) → 0 < m
     up-from m h = omega arith
 
-    go : (s : Bool) → 0 < mx → IsArc (fin sy 0 ey) (fin s mx ex) (cond s (pi32 sy) (fin sy 0 ey))
+    go : (s : Bool) → 0 < mx → IsArc (fin sy 0 ey) (fin s mx ex) (cond s (signedPi32 sy) (fin sy 0 ey))
     go true h = back sy ey mx ex h
     go false h = front sy ey mx ex h
 whole sy (suc my) ey sx mx ex = (λ (z : suc my ≡ 0). absurd (no my z), λ (n : suc my + mx ≡ 0 → ⊥). subst (λ (r : Float). IsArc (fin sy (suc my) ey) (fin sx mx ex) r) (sym (other-steps sy (suc my) ey (fin sx mx ex) (zero-lt-suc my))) (best-good sy (suc my) ey sx mx ex (zero-lt-suc my) (arc-good sy (suc my) ey sx mx ex (zero-lt-suc my))))

@@ -75,7 +75,7 @@ C (fin s m e) = cosine s (m * up e) (down e)
 abbrev pub apart : Bool → ℕ → ℕ → Ratio → ℕ
 apart s a b ρ = cond (Bool·beq s (ρ .neg)) (dist (a * ρ .bot) (ρ .top * b)) (a * ρ .bot + ρ .top * b)
 
-unfoldable pub within : ℕ → Float → Ratio → Type 0
-within g nan ρ = ⊥
-within g (inf s) ρ = ⊥
-within g (fin s m e) ρ = apart s (m * up e) (down e) ρ * g ≤ down e * ρ .bot
+unfoldable pub closeTo : ℕ → Float → Ratio → Type 0
+closeTo g nan ρ = ⊥
+closeTo g (inf s) ρ = ⊥
+closeTo g (fin s m e) ρ = apart s (m * up e) (down e) ρ * g ≤ down e * ρ .bot

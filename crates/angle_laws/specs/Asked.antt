@@ -3,7 +3,7 @@ use Prim.Native.Nat.{ℕ, _+_, _<_, _*_, _≤_, max}
 use mathlib.Core.Bool.{Bool, true, false, cond}
 use lib.Ieee.{neg, Float, nan, inf, fin, up, down}
 use mathlib.Core.Path.{_≡_}
-use Rattle.angles.specs.Arc.{minusSize, pi32}
+use Rattle.angles.specs.Arc.{minusSize, signedPi32}
 use Rattle.angle_laws.specs.Angle.{Ratio, S, C}
 use Rattle.sines.specs.Steps.{xor}
 
@@ -15,8 +15,8 @@ plusPositive true u false v = u < v
 plusPositive true u true v = ⊥
 
 -- |y C(a) - x S(a)| ≤ 2^-18 max(|x|, |y|), with all denominators multiplied out
-abbrev pub onLine : Bool → ℕ → ℕ → Bool → ℕ → ℕ → Ratio → Ratio → Type 0
-onLine sy ny dy sx nx dx s c =
+abbrev pub nearLine : Bool → ℕ → ℕ → Bool → ℕ → ℕ → Ratio → Ratio → Type 0
+nearLine sy ny dy sx nx dx s c =
     minusSize (xor sy (c .neg)) (ny * dx * (c .top * s .bot)) (xor sx (s .neg)) (nx * dy * (s .top * c .bot)) * 262144 ≤ max (nx * dy) (ny * dx) * (c .bot * s .bot)
 
 -- x C(a) + y S(a) > 0
@@ -27,7 +27,7 @@ forward sy ny dy sx nx dx s c =
 -- a is an arctangent of (y, x), all finite, not both zero: |a| ≤ 13176795 / 2^22, the f32 nearest π, and a has y's sign
 unfoldable pub IsArc : Float → Float → Float → Type 0
 IsArc (fin sy my ey) (fin sx mx ex) (fin sa m e) =
-    onLine sy (my * up ey) (down ey) sx (mx * up ex) (down ex) (S (fin sa m e)) (C (fin sa m e))
+    nearLine sy (my * up ey) (down ey) sx (mx * up ex) (down ex) (S (fin sa m e)) (C (fin sa m e))
     × (forward sy (my * up ey) (down ey) sx (mx * up ex) (down ex) (S (fin sa m e)) (C (fin sa m e))
     × ((m * up e * 4194304 ≤ 13176795 * down e) × (sa ≡ sy)))
 IsArc (fin sy my ey) (fin sx mx ex) nan = ⊥
@@ -39,7 +39,7 @@ IsArc (inf s) x a = ⊥
 
 -- all of document 01's rules, for finite y and x: a zero y gives y itself for x positive or +0, and ± the f32 nearest π for x negative or -0; not both zero, an arctangent
 unfoldable pub Arctan : Float → Float → Float → Type 0
-Arctan (fin sy my ey) (fin sx mx ex) r = (my ≡ 0 → r ≡ cond sx (pi32 sy) (fin sy my ey)) × ((my + mx ≡ 0 → ⊥) → IsArc (fin sy my ey) (fin sx mx ex) r)
+Arctan (fin sy my ey) (fin sx mx ex) r = (my ≡ 0 → r ≡ cond sx (signedPi32 sy) (fin sy my ey)) × ((my + mx ≡ 0 → ⊥) → IsArc (fin sy my ey) (fin sx mx ex) r)
 Arctan (fin sy my ey) nan r = ⊥
 Arctan (fin sy my ey) (inf s) r = ⊥
 Arctan nan x r = ⊥

@@ -13,7 +13,7 @@ use Rattle.bits.specs.Parts.{places}
 use Rattle.sines.specs.Sines.{plusZero}
 use Rattle.bits.proofs.Wide.{or-le}
 use Rattle.angles.proofs.Sides.{lt-zero, mag-zero, mag-pos}
-use Rattle.angles.specs.Arc.{pi32, gridTest, certOf, ratioOf, arcSteps, magf, bestSteps}
+use Rattle.angles.specs.Arc.{signedPi32, gridTest, certOf, ratioOf, arcSteps, magf, bestSteps}
 use Rattle.angles.specs.Guess.{arcGuess}
 
 -- ---- the size of a float is not below zero
@@ -32,14 +32,14 @@ places-le n d dp h = le-of-mul-le-mul-right (le-trans (div-mul-le-self (n * 1099
     go : (n d : ℕ) → n * 4194304 ≤ 13176795 * d → n * 1099511627776 ≤ 17592186044416 * d
     go n d h = omega arith
 
-pub top-of : (m : ℕ) (e : ℤ) → le (fin false m e) (pi32 false) ≡ true → m * up e * 4194304 ≤ 13176795 * down e
+pub top-of : (m : ℕ) (e : ℤ) → le (fin false m e) (signedPi32 false) ≡ true → m * up e * 4194304 ≤ 13176795 * down e
 unfolding le
 top-of m e k = go (or-le (m * up e * 4194304) (13176795 * 1 * down e) true (subst T (sym k) tt))
   where
     go : m * up e * 4194304 ≤ 13176795 * 1 * down e → m * up e * 4194304 ≤ 13176795 * down e
     go h = omega arith
 
-pub fixed-asks : (c : Float) → T (not (lt c plusZero)) → le c (pi32 false) ≡ true → T (finite c) × (places 40 c ≤ 17592186044416)
+pub fixed-asks : (c : Float) → T (not (lt c plusZero)) → le c (signedPi32 false) ≡ true → T (finite c) × (places 40 c ≤ 17592186044416)
 unfolding places le lt
 fixed-asks nan h k = absurd (true≢false (sym k))
 fixed-asks (inf true) h k = absurd h
@@ -51,11 +51,11 @@ fixed-asks (fin true zero e) h k = (tt, places-le (0 * up e) (down e) (down-pos 
 fixed-asks (fin true (suc m) e) h k = absurd (subst (λ (b : Bool). T (not b)) (lt-zero true (suc m) e (zero-lt-suc m)) h)
 fixed-asks (fin false m e) h k = (tt, places-le (m * up e) (down e) (down-pos e) (top-of m e k))
 
-pub cert-yes : (back : Bool) (py px : ℕ) (c : Float) (X : ℕ) (r : Bool) → le c (pi32 false) ≡ true → X ≡ places 40 c → r ≡ gridTest back py px X → r ≡ certOf back py px c
+pub cert-yes : (back : Bool) (py px : ℕ) (c : Float) (X : ℕ) (r : Bool) → le c (signedPi32 false) ≡ true → X ≡ places 40 c → r ≡ gridTest back py px X → r ≡ certOf back py px c
 unfolding certOf
 cert-yes back py px c X r k e f = f ∙ ap (λ (z : ℕ). gridTest back py px z) e ∙ sym (ap (λ (a : Bool). cond a (gridTest back py px (places 40 c)) false) k)
 
-pub cert-far : (back : Bool) (py px : ℕ) (c : Float) → le c (pi32 false) ≡ false → false ≡ certOf back py px c
+pub cert-far : (back : Bool) (py px : ℕ) (c : Float) → le c (signedPi32 false) ≡ false → false ≡ certOf back py px c
 unfolding certOf
 cert-far back py px c k = sym (ap (λ (a : Bool). cond a (gridTest back py px (places 40 c)) false) k)
 

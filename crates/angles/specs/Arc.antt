@@ -61,8 +61,8 @@ arcSteps y x =
     cond (lt y plusZero) (neg a) a
 
 -- ± the f32 nearest π
-abbrev pub pi32 : Bool → Float
-pi32 s = fin s 13176795 (negsuc 21)
+abbrev pub signedPi32 : Bool → Float
+signedPi32 s = fin s 13176795 (negsuc 21)
 
 -- ---- the certificate of a guessed angle c, over whole numbers: py, px stand for |y|, |x| in units of 2^-31 of the larger
 -- ± u + ± v ≥ 2^60
@@ -91,7 +91,7 @@ gridTest back py px X = let q = scan 20 0 X in turnTest (half q % 4) (odd q) bac
 -- an angle c from +0 to the f32 nearest π
 unfoldable pub certOf : Bool → ℕ → ℕ → Float → Bool
 unfolding le places gridTest
-certOf back py px c = cond (le c (pi32 false)) (gridTest back py px (places 40 c)) false
+certOf back py px c = cond (le c (signedPi32 false)) (gridTest back py px (places 40 c)) false
 
 -- the guess where it is certified, the halving elsewhere
 unfoldable pub bestSteps : Float → Float → Float
@@ -112,4 +112,4 @@ behindOf x = cond (lt x plusZero) true (cond (eq x plusZero) (lt (div binary32 o
 
 unfoldable pub arctanSteps : Float → Float → Float
 unfolding behindOf bestSteps
-arctanSteps y x = cond (eq y plusZero) (cond (behindOf x) (cond (lt (div binary32 one y) plusZero) (neg (pi32 false)) (pi32 false)) y) (bestSteps y x)
+arctanSteps y x = cond (eq y plusZero) (cond (behindOf x) (cond (lt (div binary32 one y) plusZero) (neg (signedPi32 false)) (signedPi32 false)) y) (bestSteps y x)

@@ -25,7 +25,7 @@ use Rattle.interpolate.specs.Blend.{Filter, refusedOf}
 use Rattle.loads.specs.Load.{Work}
 use Rattle.reader.specs.Queries.{lengthsOf, allowed, nearestOr, filterSays}
 use Rattle.settext.specs.declared.State.{State}
-use Rattle.answers.specs.Answers.{sizesIn, nearestOf, filteredOf}
+use Rattle.answers.specs.Answers.{sizesIn, nearestNumber, filteredOf}
 
 -- the outcome is no refusal
 abbrev pub Answers : Outcome → Type 0
@@ -60,7 +60,7 @@ unfolding allowed unless
 by-verdict verdict.Fine w f ll rl g e a = rw (e refl) (by-found f ll rl g a)
 by-verdict (verdict.Refused n p) w f ll rl g e a = absurd a
 
-pub found-where-answered : (s : State) (look : Lookup) (d : Work) (responses delays : List Float) (q : Point3) → Answers (filteredOf s look d responses delays q .answer) → Number (nearestOf s look d q)
-unfolding filteredOf filterSays nearestOf findOf
+pub found-where-answered : (s : State) (look : Lookup) (d : Work) (responses delays : List Float) (q : Point3) → Answers (filteredOf s look d responses delays q .answer) → Number (nearestNumber s look d q)
+unfolding filteredOf filterSays nearestNumber findOf
 found-where-answered s look d responses delays q a =
     by-verdict _ _ (locateOf look (s .m) (d .cartesian) (d .left) (d .right) q) (s .n) (s .n) _ (find-fine (sizesIn s) (lengthsOf (d .cartesian) (d .left) (d .right) responses (d .neighbours)) (s .rate) q) a

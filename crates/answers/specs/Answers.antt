@@ -24,8 +24,8 @@ unfoldable pub setOf : State → List Float → ℕ → Work → Load
 setOf s positions responses d = loadOf (s .kind) (sizesIn s) (take (3 * s .m) positions) responses (s .astep) (s .rstep) (s .rate) d
 
 -- the measurement nearest to a query, or the find's refusal
-unfoldable pub nearestOf : State → Lookup → Work → Point3 → Located
-nearestOf s look d q = findOf look (sizesIn s) (d .cartesian) (d .left) (d .right) q
+unfoldable pub nearestNumber : State → Lookup → Work → Point3 → Located
+nearestNumber s look d q = findOf look (sizesIn s) (d .cartesian) (d .left) (d .right) q
 
 -- the filter at a query, with outputs of n values
 unfoldable pub filteredOf : State → Lookup → Work → List Float → List Float → Point3 → Filter
@@ -36,8 +36,8 @@ abbrev pub blockFor : Filter → Located → List ℕ
 blockFor f found = blockOf (f .answer) found (f .left) (f .right)
 
 -- the block of a query
-unfoldable pub answerOf : State → Lookup → Work → List Float → List Float → Point3 → List ℕ
-answerOf s look d responses delays q = blockFor (filteredOf s look d responses delays q) (nearestOf s look d q)
+unfoldable pub answerBlock : State → Lookup → Work → List Float → List Float → Point3 → List ℕ
+answerBlock s look d responses delays q = blockFor (filteredOf s look d responses delays q) (nearestNumber s look d q)
 
 -- what the call leaves: the number of bytes of the block, the list with the block at its front, and both responses
 pub record Answered : Type 0 where
@@ -54,4 +54,4 @@ abbrev pub blockInto : List ℕ → Filter → List ℕ → Answered
 blockInto b f out = answeredAs (length b) (over b out) (f .left) (f .right)
 
 unfoldable pub answeredOf : State → Lookup → Work → List Float → List Float → Point3 → List ℕ → Answered
-answeredOf s look d responses delays q out = blockInto (answerOf s look d responses delays q) (filteredOf s look d responses delays q) out
+answeredOf s look d responses delays q out = blockInto (answerBlock s look d responses delays q) (filteredOf s look d responses delays q) out

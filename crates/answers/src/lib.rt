@@ -1,6 +1,6 @@
 // What a set in the text form answers, over the lists that its lines filled: `load` after its last line, and the block of each query.
 //
-// `load` equals `setOf` and `answer` equals `answeredOf`, which writes the block `answerOf` (specs/Answers.antt), by the definitions of crates
+// `load` equals `setOf` and `answer` equals `answeredOf`, which writes the block `answerBlock` (specs/Answers.antt), by the definitions of crates
 // `loads`, `lookup`, `reader` and `blocks`. proofs/Found.antt: where the filter is answered its measurement was found, so that a block
 // names a number or tells the filter's own refusal (`found-where-answered`). proofs/Few.antt: a set that was loaded has two ears and a
 // measurement, so that n is at most 2048 (`ready-few`).
@@ -9,7 +9,7 @@ ghost use Prim.Native.Nat.{_+_, _*_, _≤_};
 ghost use lib.ListN.{length};
 ghost use Rattle.interpolate.specs.Blend.{filterOf};
 ghost use Rattle.loads.specs.Load.{workOf, loadAs};
-ghost use Rattle.answers.specs.Answers.{sizesIn, setOf, nearestOf, filteredOf, answeredAs, answeredOf};
+ghost use Rattle.answers.specs.Answers.{sizesIn, setOf, nearestNumber, filteredOf, answeredAs, answeredOf};
 use delays::Outcome;
 use limits::Sizes;
 use loads::Loaded;
@@ -68,7 +68,7 @@ fn nearest(
     neighbours: &[u16],
     q: Point3,
 ) -> Located
-    ensures { λ r. ⌜ r ≡ nearestOf s look (workOf (now (left .entry)) (now (right .entry)) (now (neighbours .entry)) (now (cartesian .entry))) q ⌝ }
+    ensures { λ r. ⌜ r ≡ nearestNumber s look (workOf (now (left .entry)) (now (right .entry)) (now (neighbours .entry)) (now (cartesian .entry))) q ⌝ }
 {
     look.find(sizes_of(s), cartesian, left, right, q)
 }

@@ -7,7 +7,7 @@ use lib.ListN.{length, length-append}
 use lib.Ieee.{Float}
 use Rattle.text.specs.Print.{decimalText}
 use Rattle.text.proofs.Printing.{decimal-length}
-use Rattle.keys.specs.Words.{bytes}
+use Rattle.text.specs.Words.{bytes}
 use Rattle.delays.specs.declared.Seconds.{Seconds}
 use Rattle.delays.specs.declared.Outcome.{Outcome}
 use Rattle.delays.specs.declared.Outcome.the-variants.{Exact, Blended, Refused}

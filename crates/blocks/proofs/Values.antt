@@ -10,7 +10,7 @@ use lib.Ieee.{Float}
 use Rattle.lists.proofs.Laws.{length-upto}
 use Rattle.text.specs.Print.{hexText, digitAt}
 use Rattle.text.specs.Values.{bitsOf}
-use Rattle.blocks.specs.Put.{into, Room, Wrote}
+use Rattle.blocks.specs.Put.{into, FitsAt, Wrote}
 use Rattle.blocks.proofs.Into.{begin, then}
 use Rattle.blocks.specs.Blocks.{valueText, afterOne, listText}
 
@@ -52,13 +52,13 @@ some (x ∷ xs) z h = ap (λ (ys : List Float). valueText x ++ afterOne ys) (sym
 next : (xs : List Float) (i : ℕ) (z : Float) → i < length xs → afterOne (take (i + 1) xs) ≡ afterOne (take i xs) ++ (44 ∷ valueText (getD xs i z))
 next xs i z g = ap afterOne (ap (λ (k : ℕ). take k xs) (add-one i) ∙ take-suc xs i z g) ∙ after-more (take i xs) (getD xs i z)
 
-pub room-next : (at i : ℕ) (xs : List Float) (d : List ℕ) (z : Float) → i < length xs → Room at (afterOne xs) d → Room at (afterOne (take i xs) ++ (44 ∷ valueText (getD xs i z))) d
+pub room-next : (at i : ℕ) (xs : List Float) (d : List ℕ) (z : Float) → i < length xs → FitsAt at (afterOne xs) d → FitsAt at (afterOne (take i xs) ++ (44 ∷ valueText (getD xs i z))) d
 room-next at i xs d z g r =
     let l = length-append (afterOne (take i xs)) (44 ∷ valueText (getD xs i z)) in
     let k : length (take i xs) ≡ i = length-take-le i xs (omega arith) in
     omega (arith, r, l, k, after-length (take i xs), after-length xs, value-length (getD xs i z))
 
-pub turn : (at i u r : ℕ) (xs : List Float) (d e f : List ℕ) (z : Float) → i < length xs → Room at (afterOne xs) d
+pub turn : (at i u r : ℕ) (xs : List Float) (d e f : List ℕ) (z : Float) → i < length xs → FitsAt at (afterOne xs) d
     → Wrote at (afterOne (take i xs)) d u e → Wrote u (44 ∷ valueText (getD xs i z)) e r f → Wrote at (afterOne (take (i + 1) xs)) d r f
 turn at i u r xs d e f z g room w v = rw (next xs i z g) (then at u r (afterOne (take i xs)) (44 ∷ valueText (getD xs i z)) d e f (room-next at i xs d z g room) w v)
 

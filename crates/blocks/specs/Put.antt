@@ -10,8 +10,8 @@ unfoldable pub into : ℕ → List ℕ → List ℕ → List ℕ
 into at xs d = take at d ++ over xs (drop at d)
 
 -- there is room for xs
-abbrev pub Room : ℕ → List ℕ → List ℕ → Type 0
-Room at xs d = at + length xs ≤ length d
+abbrev pub FitsAt : ℕ → List ℕ → List ℕ → Type 0
+FitsAt at xs d = at + length xs ≤ length d
 
 -- d became d′ by writing xs at `at`, and `next` is the place behind it
 abbrev pub Wrote : ℕ → List ℕ → List ℕ → ℕ → List ℕ → Type 0

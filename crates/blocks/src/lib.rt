@@ -7,7 +7,7 @@ ghost use Prim.Native.Nat.{_+_, _*_, _≤_};
 ghost use mathlib.Core.List.{[], _∷_, _++_};
 ghost use lib.ListN.{length};
 ghost use Rattle.lists.specs.Over.{over};
-ghost use Rattle.blocks.specs.Put.{Room, Wrote};
+ghost use Rattle.blocks.specs.Put.{FitsAt, Wrote};
 ghost use Rattle.blocks.specs.Blocks.{wordLine, countLine, valueText, valueLine, afterOne, listText, valuesLine, headText, delaysText, filterText, foundText, refusedText, blockOf, formError};
 use delays::Outcome;
 use delays::Seconds;
@@ -16,7 +16,7 @@ use lookup::Located;
 // ---- into a list from a place on: the place behind what was written
 
 fn put(word: &[u8], out: &mut [u8], at: usize) -> usize
-    requires { ⌜ Room at (now word) (now out) ⌝ }
+    requires { ⌜ FitsAt at (now word) (now out) ⌝ }
     ensures { λ r. ⌜ Wrote at (now (word .entry)) (now (out .entry)) r (now (out .exit)) ⌝ }
 {
     let mut i = 0;
@@ -28,7 +28,7 @@ fn put(word: &[u8], out: &mut [u8], at: usize) -> usize
 }
 
 fn word_line(word: &[u8], out: &mut [u8], at: usize) -> usize
-    requires { ⌜ Room at (wordLine (now word)) (now out) ⌝ }
+    requires { ⌜ FitsAt at (wordLine (now word)) (now out) ⌝ }
     ensures { λ r. ⌜ Wrote at (wordLine (now (word .entry))) (now (out .entry)) r (now (out .exit)) ⌝ }
 {
     let a = put(word, out, at);
@@ -37,7 +37,7 @@ fn word_line(word: &[u8], out: &mut [u8], at: usize) -> usize
 }
 
 fn count_line(key: &[u8], k: usize, out: &mut [u8], at: usize) -> usize
-    requires { ⌜ Room at (countLine (now key) k) (now out) ⌝ }
+    requires { ⌜ FitsAt at (countLine (now key) k) (now out) ⌝ }
     ensures { λ r. ⌜ Wrote at (countLine (now (key .entry)) k) (now (out .entry)) r (now (out .exit)) ⌝ }
 {
     let a = put(key, out, at);
@@ -47,7 +47,7 @@ fn count_line(key: &[u8], k: usize, out: &mut [u8], at: usize) -> usize
 }
 
 fn put_value(x: f32, out: &mut [u8], at: usize) -> usize
-    requires { ⌜ Room at (valueText x) (now out) ⌝ }
+    requires { ⌜ FitsAt at (valueText x) (now out) ⌝ }
     ensures { λ r. ⌜ Wrote at (valueText x) (now (out .entry)) r (now (out .exit)) ⌝ }
 {
     text::put_hex(floats::pattern(x), &mut out[at..]);
@@ -55,7 +55,7 @@ fn put_value(x: f32, out: &mut [u8], at: usize) -> usize
 }
 
 fn value_line(key: &[u8], x: f32, out: &mut [u8], at: usize) -> usize
-    requires { ⌜ Room at (valueLine (now key) x) (now out) ⌝ }
+    requires { ⌜ FitsAt at (valueLine (now key) x) (now out) ⌝ }
     ensures { λ r. ⌜ Wrote at (valueLine (now (key .entry)) x) (now (out .entry)) r (now (out .exit)) ⌝ }
 {
     let a = put(key, out, at);
@@ -66,7 +66,7 @@ fn value_line(key: &[u8], x: f32, out: &mut [u8], at: usize) -> usize
 
 // A value that comes after another.
 fn next_value(x: f32, out: &mut [u8], at: usize) -> usize
-    requires { ⌜ Room at (44 ∷ valueText x) (now out) ⌝ }
+    requires { ⌜ FitsAt at (44 ∷ valueText x) (now out) ⌝ }
     ensures { λ r. ⌜ Wrote at (44 ∷ valueText x) (now (out .entry)) r (now (out .exit)) ⌝ }
 {
     out[at] = 44;
@@ -74,7 +74,7 @@ fn next_value(x: f32, out: &mut [u8], at: usize) -> usize
 }
 
 fn more_values(xs: &[f32], out: &mut [u8], at: usize) -> usize
-    requires { ⌜ Room at (afterOne (now xs)) (now out) ⌝ }
+    requires { ⌜ FitsAt at (afterOne (now xs)) (now out) ⌝ }
     ensures { λ r. ⌜ Wrote at (afterOne (now (xs .entry))) (now (out .entry)) r (now (out .exit)) ⌝ }
 {
     let mut u = at;
@@ -87,7 +87,7 @@ fn more_values(xs: &[f32], out: &mut [u8], at: usize) -> usize
 }
 
 fn put_values(xs: &[f32], out: &mut [u8], at: usize) -> usize
-    requires { ⌜ Room at (listText (now xs)) (now out) ⌝ }
+    requires { ⌜ FitsAt at (listText (now xs)) (now out) ⌝ }
     ensures { λ r. ⌜ Wrote at (listText (now (xs .entry))) (now (out .entry)) r (now (out .exit)) ⌝ }
 {
     if xs.len() == 0 {
@@ -98,7 +98,7 @@ fn put_values(xs: &[f32], out: &mut [u8], at: usize) -> usize
 }
 
 fn values_line(key: &[u8], xs: &[f32], out: &mut [u8], at: usize) -> usize
-    requires { ⌜ Room at (valuesLine (now key) (now xs)) (now out) ⌝ }
+    requires { ⌜ FitsAt at (valuesLine (now key) (now xs)) (now out) ⌝ }
     ensures { λ r. ⌜ Wrote at (valuesLine (now (key .entry)) (now (xs .entry))) (now (out .entry)) r (now (out .exit)) ⌝ }
 {
     let a = put(key, out, at);
@@ -110,7 +110,7 @@ fn values_line(key: &[u8], xs: &[f32], out: &mut [u8], at: usize) -> usize
 // ---- blocks
 
 fn head(answer: &[u8], nearest: usize, points: usize, out: &mut [u8]) -> usize
-    requires { ⌜ Room 0 (headText (now answer) nearest points) (now out) ⌝ }
+    requires { ⌜ FitsAt 0 (headText (now answer) nearest points) (now out) ⌝ }
     ensures { λ r. ⌜ Wrote 0 (headText (now (answer .entry)) nearest points) (now (out .entry)) r (now (out .exit)) ⌝ }
 {
     let a = word_line(answer, out, 0);
@@ -119,7 +119,7 @@ fn head(answer: &[u8], nearest: usize, points: usize, out: &mut [u8]) -> usize
 }
 
 fn both_delays(left: Seconds, right: Seconds, out: &mut [u8], at: usize) -> usize
-    requires { ⌜ Room at (delaysText left right) (now out) ⌝ }
+    requires { ⌜ FitsAt at (delaysText left right) (now out) ⌝ }
     ensures { λ r. ⌜ Wrote at (delaysText left right) (now (out .entry)) r (now (out .exit)) ⌝ }
 {
     let a = value_line(b"ldelay=", left.0, out, at);
@@ -136,7 +136,7 @@ fn filter_block(
     right: &[f32],
     out: &mut [u8],
 ) -> usize
-    requires { ⌜ Room 0 (filterText (now answer) nearest points ldelay rdelay (now left) (now right)) (now out) ⌝ }
+    requires { ⌜ FitsAt 0 (filterText (now answer) nearest points ldelay rdelay (now left) (now right)) (now out) ⌝ }
     ensures { λ r. ⌜ Wrote 0 (filterText (now (answer .entry)) nearest points ldelay rdelay (now (left .entry)) (now (right .entry))) (now (out .entry)) r (now (out .exit)) ⌝ }
 {
     let a = head(answer, nearest, points, out);
@@ -147,7 +147,7 @@ fn filter_block(
 
 // The refused block at the front of out: how many bytes it has.
 pub fn refused_block(reason: usize, place: usize, out: &mut [u8]) -> usize
-    requires { ⌜ Room 0 (refusedText reason place) (now out) ⌝ }
+    requires { ⌜ FitsAt 0 (refusedText reason place) (now out) ⌝ }
     ensures { λ r. ⌜ Wrote 0 (refusedText reason place) (now (out .entry)) r (now (out .exit)) ⌝ }
 {
     let a = word_line(b"answer=refused", out, 0);
@@ -166,7 +166,7 @@ fn found_block(
     right: &[f32],
     out: &mut [u8],
 ) -> usize
-    requires { ⌜ Room 0 (foundText (now answer) found points ldelay rdelay (now left) (now right)) (now out) ⌝ }
+    requires { ⌜ FitsAt 0 (foundText (now answer) found points ldelay rdelay (now left) (now right)) (now out) ⌝ }
     ensures { λ r. ⌜ Wrote 0 (foundText (now (answer .entry)) found points ldelay rdelay (now (left .entry)) (now (right .entry))) (now (out .entry)) r (now (out .exit)) ⌝ }
 {
     match found {

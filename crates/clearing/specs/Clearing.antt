@@ -17,11 +17,11 @@ use Rattle.clearing.specs.declared.Nearest.{Nearest}
 
 -- ---- open boxes
 
-abbrev pub between : Float → Float → Float → Bool
-between lo hi x = lt lo x && lt x hi
+abbrev pub strictlyBetween : Float → Float → Float → Bool
+strictlyBetween lo hi x = lt lo x && lt x hi
 
 unfoldable pub holds : BoundingBox → Point3 → Bool
-holds b x = between (b .«min_x») (b .«max_x») (x .x) && (between (b .«min_y») (b .«max_y») (x .y) && between (b .«min_z») (b .«max_z») (x .z))
+holds b x = strictlyBetween (b .«min_x») (b .«max_x») (x .x) && (strictlyBetween (b .«min_y») (b .«max_y») (x .y) && strictlyBetween (b .«min_z») (b .«max_z») (x .z))
 
 -- ---- a box drawn in until a point is out
 
@@ -109,7 +109,7 @@ reachAfter w step n =
 
 -- between two faces, and nearer to p than to either: d is the squared distance from p
 unfoldable pub nearerThanFaces : Float → Float → Float → Float → Bool
-nearerThanFaces d lo hi q = between lo hi q && (lt d (gap lo q) && lt d (gap hi q))
+nearerThanFaces d lo hi q = strictlyBetween lo hi q && (lt d (gap lo q) && lt d (gap hi q))
 
 -- p is nearer to q than every face of the clearing is, and than the root if that is another
 unfoldable pub aloneIn : BoundingBox → ℕ → Point3 → Point3 → Point3 → Bool
@@ -128,14 +128,14 @@ nearer s n d =
 
 module _ (xs : List Float) (m : ℕ) (q : Point3) (places : List ℕ) where
   -- k entries from the entry i on; one that is no place among m is passed over
-  unfoldable pub nearestOf : ℕ → ℕ → Nearest → Nearest
-  nearestOf zero i s = s
-  nearestOf (suc k) i s = let n = getD places i 0 in nearestOf k (i + 1) (cond (ltb n m) (nearer s n (distSq (pointAt xs n) q)) s)
+  unfoldable pub nearestListed : ℕ → ℕ → Nearest → Nearest
+  nearestListed zero i s = s
+  nearestListed (suc k) i s = let n = getD places i 0 in nearestListed k (i + 1) (cond (ltb n m) (nearer s n (distSq (pointAt xs n) q)) s)
 
-unfoldable pub entries : Clearing → ℕ
-entries c = cond (ltb (c .count) most) (c .count) most
+unfoldable pub listedCount : Clearing → ℕ
+listedCount c = cond (ltb (c .count) most) (c .count) most
 
 -- its own, and all that are listed
-unfoldable pub nearestIn : List Float → ℕ → Point3 → ℕ → Clearing → Nearest
-nearestIn xs m q own c =
-    nearestOf xs m q (c .places) (entries c) 0 (record { place = own; dist = distSq (pointAt xs own) q; tied = false })
+unfoldable pub nearestWithin : List Float → ℕ → Point3 → ℕ → Clearing → Nearest
+nearestWithin xs m q own c =
+    nearestListed xs m q (c .places) (listedCount c) 0 (record { place = own; dist = distSq (pointAt xs own) q; tied = false })

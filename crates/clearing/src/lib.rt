@@ -6,7 +6,7 @@
 // leave a search out because it would find the same: `alone-found`, `clearing_laws` proofs/Alone.antt, over links that were built and
 // for any f32; `neighbors` uses it in proofs/Around.antt.
 //
-// `clear` promises the clearing (`clearingOf`, specs/Clearing.antt), `nearest_in` the nearest of those in it (`nearestIn`), `alone` the
+// `clear` promises the clearing (`clearingOf`, specs/Clearing.antt), `nearest_in` the nearest of those in it (`nearestWithin`), `alone` the
 // test (`aloneIn`), `reach_after` how far the next one looks (`reachAfter`): each for any lists and any f32.
 use kdtree::BoundingBox;
 use kdtree::Link;
@@ -18,7 +18,7 @@ ghost use lib.Dec.{ltb};
 ghost use lib.ListN.{length};
 ghost use Rattle.kdtree.specs.Tree.{subtree};
 ghost use Rattle.points.specs.Points.{pointAt, distSq};
-ghost use Rattle.clearing.specs.Clearing.{between, holds, farAxis, drawnIn, heldIn, met, reaches, cleared, none, clearingOf, reachAfter, nearerThanFaces, aloneIn, nearer, entries, nearestIn};
+ghost use Rattle.clearing.specs.Clearing.{strictlyBetween, holds, farAxis, drawnIn, heldIn, met, reaches, cleared, none, clearingOf, reachAfter, nearerThanFaces, aloneIn, nearer, listedCount, nearestWithin};
 
 const MOST: usize = 24;
 
@@ -36,7 +36,7 @@ struct Kept {
 }
 
 fn is_between(lo: f32, hi: f32, x: f32) -> bool
-    ensures { λ r. ⌜ r ≡ between lo hi x ⌝ }
+    ensures { λ r. ⌜ r ≡ strictlyBetween lo hi x ⌝ }
 {
     (lo < x) & (x < hi)
 }
@@ -273,8 +273,8 @@ fn beside(xs: &[f32], m: usize, q: Point3, s: Nearest, n: usize) -> Nearest
 }
 
 // How many are listed, of any clearing.
-fn entries(c: Clearing) -> usize
-    ensures { λ r. ⌜ r ≡ entries c ⌝ }
+fn listed_count(c: Clearing) -> usize
+    ensures { λ r. ⌜ r ≡ listedCount c ⌝ }
 {
     if c.count < MOST { c.count } else { MOST }
 }
@@ -282,7 +282,7 @@ fn entries(c: Clearing) -> usize
 // Its own, and all that are listed.
 pub fn nearest_in(m: usize, xs: &[f32], own: usize, c: Clearing, q: Point3) -> Nearest
     requires { ⌜ (own < m) × (3 * m ≤ length (now xs)) × (m ≤ 16384) ⌝ }
-    ensures { λ r. ⌜ r ≡ nearestIn (now (xs .entry)) m q own c ⌝ }
+    ensures { λ r. ⌜ r ≡ nearestWithin (now (xs .entry)) m q own c ⌝ }
 {
     let p = points::point_at(xs, own);
     let mut s = Nearest {
@@ -290,7 +290,7 @@ pub fn nearest_in(m: usize, xs: &[f32], own: usize, c: Clearing, q: Point3) -> N
         dist: points::dist_sq(p, q),
         tied: false,
     };
-    let end = entries(c);
+    let end = listed_count(c);
     let mut i = 0;
     while i < end {
         s = beside(xs, m, q, s, c.places[i] as usize);

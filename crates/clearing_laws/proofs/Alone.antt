@@ -17,26 +17,26 @@ use Rattle.kdtree.specs.declared.Searched.{Searched}
 use Rattle.kdtree.specs.declared.Searched.the-variants.{Found, Stopped}
 use Rattle.kdtree.specs.Tree.{Tree, subtree}
 use Rattle.kdtree.specs.Search as pruned
-use Rattle.kdtree.specs.Nearest.{startAt, startOf, foundFrom, placeOf}
+use Rattle.kdtree.specs.Nearest.{startAt, startAtRoot, foundFrom, placeFound}
 use Rattle.kdtree.specs.Unpruned.{Pick, pickOf, Item, order, size}
 use Rattle.kdtree.proofs.Nodes.{All}
-use Rattle.walks.specs.Demand3.{Numbered}
-use Rattle.walks.proofs.Lists.{each-right, each-in, each-ordered}
-use Rattle.walks.proofs.First.{tf, scan, walk-scan, all-order, scan-least, Named, scan-first}
-use Rattle.walks.proofs.Pruned.{Agrees, prune}
-use Rattle.walks.proofs.Rep.{rep-at}
-use Rattle.walks.proofs.Sides.{all-map, all-both, sorted-within}
-use Rattle.walks.proofs.Filled.{Filled, root-clean, root-nodes}
-use Rattle.walks.proofs.Demand3.{each-standing}
+use Rattle.kdtree_laws.specs.Demand3.{Numbered}
+use Rattle.kdtree_laws.proofs.Lists.{each-right, each-in, each-ordered}
+use Rattle.kdtree_laws.proofs.First.{tf, scan, walk-scan, all-order, scan-least, Named, scan-first}
+use Rattle.kdtree_laws.proofs.Pruned.{Agrees, prune}
+use Rattle.kdtree_laws.proofs.Rep.{rep-at}
+use Rattle.kdtree_laws.proofs.Sides.{all-map, all-both, sorted-within}
+use Rattle.kdtree_laws.proofs.Filled.{Filled, root-clean, root-nodes}
+use Rattle.kdtree_laws.proofs.Demand3.{each-standing}
 use Rattle.lookup.specs.declared.Located.the-variants.{At}
 use Rattle.lookup.specs.Build.{Links, linked, boxOf, boxTo}
-use Rattle.lookup.specs.Lookup.{locatedAs}
+use Rattle.lookup.specs.Lookup.{locatedBy}
 use Rattle.lookup_laws.specs.Loaded.{placed, placedFrom, Room}
 use Rattle.lookup_laws.proofs.Loaded as built
 use Rattle.lookup_laws.proofs.Nearest.{in-placed}
 use Rattle.clearing.specs.declared.Clearing.{Clearing}
 use Rattle.clearing.specs.declared.Nearest.{Nearest}
-use Rattle.clearing.specs.Clearing.{around, cleared, aloneIn, nearestIn}
+use Rattle.clearing.specs.Clearing.{around, cleared, aloneIn, nearestWithin}
 use Rattle.clearing_laws.proofs.Cleared.{Sound, Listed, Standing, around-sound, cleared-sound, cleared-out}
 use Rattle.clearing_laws.proofs.Faces.{Tested, tested, out-farther}
 use Rattle.clearing_laws.proofs.Listed.{nearest-listed, nearest-dist, nearest-below}
@@ -77,7 +77,7 @@ module _ (xs : List Float) (k : ℕ) (d : Links) (room : Room xs (suc k) d) (own
 
     module _ (q : Point3) where
       abbrev s : Nearest
-      s = nearestIn xs m q own c
+      s = nearestWithin xs m q own c
 
       module _ (tied : s .tied ≡ false) (alone : aloneIn (c .faces) (s .place) (pointAt xs (s .place)) (pointAt xs 0) q ≡ true) where
         abbrev dist : Float
@@ -146,19 +146,19 @@ module _ (xs : List Float) (k : ℕ) (d : Links) (room : Room xs (suc k) d) (own
             go (inl e) (inr l) = tf (lt dist (start .dist)) l (sym (ap (λ (z : Pick). lt dist (z .dist)) e) ∙ not-undercut)
 
         -- and by the search, whose box is the one built
-        agrees : Agrees found (0 + size t) (placeOf xs left right m (boxOf xs m) q)
+        agrees : Agrees found (0 + size t) (placeFound xs left right m (boxOf xs m) q)
         unfolding foundFrom startAt pickOf boxOf built.rect
         agrees =
             let cl = root-clean left right xs m t 0 (F .rep) in
             let z = F .whole in
-            subst (λ (u : Tree). Agrees found (0 + size t) (pruned.search m q u (boxTo xs k) 0 (startOf xs q))) (sym tree-is)
-            (subst (λ (v : Pick). Agrees v (0 + size t) (pruned.search m q t (boxTo xs k) 0 (startOf xs q))) (walk-scan q t 0 start)
-            (prune m q t (boxTo xs k) 0 (startOf xs q) (sorted-within t (boxTo xs k) 0 cl (F .sorted) (F .inside)) (omega arith)))
+            subst (λ (u : Tree). Agrees found (0 + size t) (pruned.search m q u (boxTo xs k) 0 (startAtRoot xs q))) (sym tree-is)
+            (subst (λ (v : Pick). Agrees v (0 + size t) (pruned.search m q t (boxTo xs k) 0 (startAtRoot xs q))) (walk-scan q t 0 start)
+            (prune m q t (boxTo xs k) 0 (startAtRoot xs q) (sorted-within t (boxTo xs k) 0 cl (F .sorted) (F .inside)) (omega arith)))
 
-        pub alone-found : locatedAs (placeOf xs left right m (boxOf xs m) q) ≡ At (s .place)
-        unfolding locatedAs pickOf
-        alone-found = go (placeOf xs left right m (boxOf xs m) q) agrees
+        pub alone-found : locatedBy (placeFound xs left right m (boxOf xs m) q) ≡ At (s .place)
+        unfolding locatedBy pickOf
+        alone-found = go (placeFound xs left right m (boxOf xs m) q) agrees
           where
-            go : (v : Searched) → Agrees found (0 + size t) v → locatedAs v ≡ At (s .place)
+            go : (v : Searched) → Agrees found (0 + size t) v → locatedBy v ≡ At (s .place)
             go (Found r) a = ap At (ap (λ (z : Pick). z .place) (a .0) ∙ place-is)
             go Stopped a = absurd a

@@ -15,7 +15,7 @@ use Rattle.kdtree.specs.declared.BoundingBox.{BoundingBox}
 use Rattle.kdtree.specs.Geometry.{byAxis, coordOf, nextAxis, withMin, withMax, minAt, maxAt}
 use Rattle.kdtree.specs.Tree.{Tree, gone, bad, node}
 use Rattle.kdtree.proofs.Nodes.{All}
-use Rattle.walks.proofs.Sides.{Sorted, all-map}
+use Rattle.kdtree_laws.proofs.Sides.{Sorted, all-map}
 use Rattle.clearing.specs.declared.Clearing.{Clearing}
 use Rattle.clearing.specs.Clearing.{holds, farAxis, drawnIn, most, listed, faced, around, met, reaches, cleared}
 

@@ -13,7 +13,7 @@ use Rattle.points.specs.declared.Point3.{Point3}
 use Rattle.points.specs.Points.{gap, distSq}
 use Rattle.kdtree.specs.declared.BoundingBox.{BoundingBox}
 use Rattle.kdtree.specs.Geometry.{byAxis, coordOf, boxAt, outside, boxDistSq, withMin, withMax, minAt, maxAt}
-use Rattle.walks.proofs.Box.{Between, box-under, from-zero}
+use Rattle.kdtree_laws.proofs.Box.{Between, box-under, from-zero}
 use Rattle.clearing.specs.Clearing.{nearerThanFaces, aloneIn, none}
 use Rattle.clearing_laws.proofs.Cleared.{Out}
 

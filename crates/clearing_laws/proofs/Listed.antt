@@ -14,10 +14,10 @@ use Rattle.floats.proofs.Preorder.{number, lt-not-le, lt→le, lt-irrefl-f, le-
 use Rattle.floats.proofs.Cross.{of-taken, of-left, is-false}
 use Rattle.points.specs.declared.Point3.{Point3}
 use Rattle.points.specs.Points.{pointAt, distSq}
-use Rattle.walks.proofs.First.{tf}
+use Rattle.kdtree_laws.proofs.First.{tf}
 use Rattle.clearing.specs.declared.Clearing.{Clearing}
 use Rattle.clearing.specs.declared.Nearest.{Nearest}
-use Rattle.clearing.specs.Clearing.{most, nearer, nearestOf, entries, nearestIn}
+use Rattle.clearing.specs.Clearing.{most, nearer, nearestListed, listedCount, nearestWithin}
 use Rattle.clearing_laws.proofs.Cleared.{Sound, Listed}
 
 module _ (xs : List Float) (m : ℕ) (q : Point3) where
@@ -100,30 +100,30 @@ module _ (xs : List Float) (m : ℕ) (q : Point3) where
   not-here i j h e = let d : i ≡ j → ⊥ = eqb-false i j e in omega arith
 
   module _ (places : List ℕ) where
-    all-right : (k i : ℕ) (s : Nearest) → Right s → Right (nearestOf xs m q places k i s)
-    unfolding nearestOf
+    all-right : (k i : ℕ) (s : Nearest) → Right s → Right (nearestListed xs m q places k i s)
+    unfolding nearestListed
     all-right zero i s r = r
     all-right (suc k) i s r = all-right k (i + 1) (step s (getD places i 0)) (step-right s (getD places i 0) r)
 
-    all-old : (k i : ℕ) (s : Nearest) (n : ℕ) → Right s → Met s n → Met (nearestOf xs m q places k i s) n
-    unfolding nearestOf
+    all-old : (k i : ℕ) (s : Nearest) (n : ℕ) → Right s → Met s n → Met (nearestListed xs m q places k i s) n
+    unfolding nearestListed
     all-old zero i s n r h = h
     all-old (suc k) i s n r h = all-old k (i + 1) (step s (getD places i 0)) n (step-right s (getD places i 0) r) (step-old s (getD places i 0) n r h)
 
-    all-new : (k i : ℕ) (s : Nearest) (j : ℕ) → Right s → i ≤ j → j < i + k → getD places j 0 < m → Met (nearestOf xs m q places k i s) (getD places j 0)
-    unfolding nearestOf
+    all-new : (k i : ℕ) (s : Nearest) (j : ℕ) → Right s → i ≤ j → j < i + k → getD places j 0 < m → Met (nearestListed xs m q places k i s) (getD places j 0)
+    unfolding nearestListed
     all-new zero i s j r a b h = absurd (omega arith)
     all-new (suc k) i s j r a b h = go (eqb i j) refl (all-new k (i + 1) (step s (getD places i 0)) j (step-right s (getD places i 0) r))
       where
         u : Nearest
         u = step s (getD places i 0)
 
-        go : (g : Bool) → eqb i j ≡ g → (i + 1 ≤ j → j < i + 1 + k → getD places j 0 < m → Met (nearestOf xs m q places k (i + 1) u) (getD places j 0))
-            → Met (nearestOf xs m q places k (i + 1) u) (getD places j 0)
+        go : (g : Bool) → eqb i j ≡ g → (i + 1 ≤ j → j < i + 1 + k → getD places j 0 < m → Met (nearestListed xs m q places k (i + 1) u) (getD places j 0))
+            → Met (nearestListed xs m q places k (i + 1) u) (getD places j 0)
         go true e ih =
             let f : j ≡ i = sym (eqb→eq i j (of-taken e)) in
             let here : getD places i 0 < m = subst (λ (z : ℕ). getD places z 0 < m) f h in
-            subst (λ (z : ℕ). Met (nearestOf xs m q places k (i + 1) u) (getD places z 0)) (sym f)
+            subst (λ (z : ℕ). Met (nearestListed xs m q places k (i + 1) u) (getD places z 0)) (sym f)
             (all-old k (i + 1) u (getD places i 0) (step-right s (getD places i 0) r) (step-new s (getD places i 0) here))
         go false e ih = ih (not-here i j a e) (omega arith) h
 
@@ -131,7 +131,7 @@ module _ (xs : List Float) (m : ℕ) (q : Point3) where
 
 module _ (xs : List Float) (m : ℕ) (q : Point3) (own : ℕ) (c : Clearing) where
   abbrev s : Nearest
-  s = nearestIn xs m q own c
+  s = nearestWithin xs m q own c
 
   abbrev start : Nearest
   start = record { place = own; dist = distSq (pointAt xs own) q; tied = false }
@@ -140,8 +140,8 @@ module _ (xs : List Float) (m : ℕ) (q : Point3) (own : ℕ) (c : Clearing) whe
   start-right h = record { dist = refl; below = h }
 
   right : own < m → Right xs m q s
-  unfolding nearestIn
-  right h = all-right xs m q (c .places) (entries c) 0 start (start-right h)
+  unfolding nearestWithin
+  right h = all-right xs m q (c .places) (listedCount c) 0 start (start-right h)
 
   pub nearest-dist : own < m → s .dist ≡ distSq (pointAt xs (s .place)) q
   nearest-dist h = right h .dist
@@ -150,8 +150,8 @@ module _ (xs : List Float) (m : ℕ) (q : Point3) (own : ℕ) (c : Clearing) whe
   nearest-below h = right h .below
 
   -- as many as are listed
-  all-entries : c .count ≤ 24 → entries c ≡ c .count
-  unfolding entries
+  all-entries : c .count ≤ 24 → listedCount c ≡ c .count
+  unfolding listedCount
   all-entries h = go (ltb (c .count) most) refl
     where
       go : (g : Bool) → ltb (c .count) most ≡ g → cond g (c .count) most ≡ c .count
@@ -159,17 +159,17 @@ module _ (xs : List Float) (m : ℕ) (q : Point3) (own : ℕ) (c : Clearing) whe
       go false e = let k : most ≤ c .count = nltb→le (c .count) most (of-left e) in omega arith
 
   met : Sound c → own < m → (n : ℕ) → n < m → (n ≡ own) ⊎ Listed c n → Met xs m q s n
-  unfolding nearestIn
-  met t h n k (inl e) = all-old xs m q (c .places) (entries c) 0 start n (start-right h) (inl e)
+  unfolding nearestWithin
+  met t h n k (inl e) = all-old xs m q (c .places) (listedCount c) 0 start n (start-right h) (inl e)
   met t h n k (inr l) =
       subst (λ (z : ℕ). Met xs m q s z) (l .is)
-      (all-new xs m q (c .places) (entries c) 0 start (l .at) (start-right h) (omega arith) inside (subst (λ (z : ℕ). z < m) (sym (l .is)) k))
+      (all-new xs m q (c .places) (listedCount c) 0 start (l .at) (start-right h) (omega arith) inside (subst (λ (z : ℕ). z < m) (sym (l .is)) k))
     where
       under : l .at < c .count
       under = l .under
 
-      inside : l .at < 0 + entries c
-      inside = let e : entries c ≡ c .count = all-entries (t .few) in omega arith
+      inside : l .at < 0 + listedCount c
+      inside = let e : listedCount c ≡ c .count = all-entries (t .few) in omega arith
 
   -- ALL OTHERS ARE FARTHER, unless their distance is no number
   pub nearest-listed : Sound c → own < m → s .tied ≡ false → T (number (s .dist)) → (n : ℕ) → n < m → (n ≡ own) ⊎ Listed c n

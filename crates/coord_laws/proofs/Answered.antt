@@ -21,14 +21,14 @@ use Rattle.root.specs.Root.{rootOf}
 use Rattle.root.proofs.Laws.{rootOf-positive}
 use Rattle.sines.specs.Sines.{plusZero, sixteen, inRange, sineSteps, cosineSteps}
 use Rattle.angles.specs.declared.Answer.the-variants.{Value, Refused}
-use Rattle.angles.specs.Arc.{pi32, arctanSteps}
+use Rattle.angles.specs.Arc.{signedPi32, arctanSteps}
 use Rattle.angles.specs.Says.{sinOf, cosOf, atan2Of, sineSays, cosineSays, arctanSays}
-use Rattle.angle_laws.specs.Angle.{S, C, within}
+use Rattle.angle_laws.specs.Angle.{S, C, closeTo}
 use Rattle.angle_laws.specs.Asked.{IsArc, Arctan}
 use Rattle.angle_laws.proofs.Near.{sine-near, cosine-near}
 use Rattle.angle_laws.proofs.Zero.{arctan-good}
 use Rattle.limits.specs.Allowed as limits
-use Rattle.limits.specs.Allowed.{nearest, angleOk, positionOk}
+use Rattle.limits.specs.Allowed.{nearest32, angleOk, positionOk}
 use Rattle.limits.specs.Refusals.{triplets}
 use Rattle.limits.proofs.Passed.{Allowed, values-passed}
 use Rattle.limits.proofs.Ends.{between-low, between-high, between-finite, angle-finite}
@@ -49,17 +49,17 @@ in-range : (x : Float) → Small sixteen x → T (inRange x)
 unfolding neg le lt eq
 in-range x h = let s = small-between sixteen x tt tt h in and-i (le (neg sixteen) x) (le x sixteen) (s .0) (s .1)
 
-angle-small : (d : Float) → angleOk d ≡ true → Small (nearest 720 1) d
+angle-small : (d : Float) → angleOk d ≡ true → Small (nearest32 720 1) d
 unfolding angleOk limits.within
-angle-small d e = between-small (nearest 720 1) d (angle-finite d e) (between-low (neg (nearest 720 1)) (nearest 720 1) d e) (between-high (neg (nearest 720 1)) (nearest 720 1) d e)
+angle-small d e = between-small (nearest32 720 1) d (angle-finite d e) (between-low (neg (nearest32 720 1)) (nearest32 720 1) d e) (between-high (neg (nearest32 720 1)) (nearest32 720 1) d e)
 
 -- 720 degrees are less than 16
-radians-small : (d : Float) → Small (nearest 720 1) d → Small sixteen (radians d)
+radians-small : (d : Float) → Small (nearest32 720 1) d → Small sixteen (radians d)
 unfolding round mul div ofBits le lt eq
-radians-small d h = small-mul binary32 (nearest 720 1) perDegree sixteen d perDegree tt tt tt tt h (record { held = tt; most = tt })
+radians-small d h = small-mul binary32 (nearest32 720 1) perDegree sixteen d perDegree tt tt tt tt h (record { held = tt; most = tt })
 
 -- SINE AND COSINE OF EVERY ANGLE THAT DOCUMENT 01 ALLOWS ARE ANSWERED
-pub turn-answered : (d : Float) → Small (nearest 720 1) d → TurnAnswered d
+pub turn-answered : (d : Float) → Small (nearest32 720 1) d → TurnAnswered d
 turn-answered d h =
     let r = in-range (radians d) (radians-small d h) in
     let w = mul-fits binary32 d perDegree in
@@ -69,8 +69,8 @@ turn-answered d h =
       in-range = r;
       sine-says = unfold sineSays turnOf sinOf in rw (sin-is) (first (inRange (radians d)) (Value (sineSteps (radians d))) (Refused 7 0) r);
       cosine-says = unfold cosineSays turnOf cosOf in rw (cos-is) (first (inRange (radians d)) (Value (cosineSteps (radians d))) (Refused 7 0) r);
-      near-sine = unfold turnOf sinOf in subst (λ (v : Float). within 1048576 v (S (radians d))) (sym sin-is) (sine-near (radians d) w r);
-      near-cosine = unfold turnOf cosOf in subst (λ (v : Float). within 1048576 v (C (radians d))) (sym cos-is) (cosine-near (radians d) w r);
+      near-sine = unfold turnOf sinOf in subst (λ (v : Float). closeTo 1048576 v (S (radians d))) (sym sin-is) (sine-near (radians d) w r);
+      near-cosine = unfold turnOf cosOf in subst (λ (v : Float). closeTo 1048576 v (C (radians d))) (sym cos-is) (cosine-near (radians d) w r);
     }
 
 -- ---- the arctangent
@@ -92,38 +92,38 @@ arc-answered y x p q =
     }
 
 -- of any two floats it is at most the f32 nearest π: +0 where a call would be refused
-zero-small : Small (pi32 false) plusZero
+zero-small : Small (signedPi32 false) plusZero
 unfolding le lt eq
 zero-small = record { held = tt; most = tt }
 
-from-arc : (s : Bool) (m : ℕ) (e : ℤ) (t : Bool) (n : ℕ) (d : ℤ) (r : Float) → IsArc (fin s m e) (fin t n d) r → Small (pi32 false) r
+from-arc : (s : Bool) (m : ℕ) (e : ℤ) (t : Bool) (n : ℕ) (d : ℤ) (r : Float) → IsArc (fin s m e) (fin t n d) r → Small (signedPi32 false) r
 unfolding IsArc
 from-arc s m e t n d nan h = absurd h
 from-arc s m e t n d (inf u) h = absurd h
-from-arc s m e t n d (fin u k g) h = record { held = tt; most = cross→le (fin false k g) (pi32 false) tt tt (omega (arith, h .1 .1 .0)) }
+from-arc s m e t n d (fin u k g) h = record { held = tt; most = cross→le (fin false k g) (signedPi32 false) tt tt (omega (arith, h .1 .1 .0)) }
 
-pub arc-small : (y x : Float) → Small (pi32 false) (atan2Of y x)
+pub arc-small : (y x : Float) → Small (signedPi32 false) (atan2Of y x)
 unfolding atan2Of Arctan
 arc-small nan x = zero-small
 arc-small (inf s) x = zero-small
 arc-small (fin s m e) nan = zero-small
 arc-small (fin s m e) (inf t) = zero-small
-arc-small (fin s zero e) (fin t n d) = subst (Small (pi32 false)) (sym (arctan-good (fin s 0 e) (fin t n d) tt .0 refl)) (go t)
+arc-small (fin s zero e) (fin t n d) = subst (Small (signedPi32 false)) (sym (arctan-good (fin s 0 e) (fin t n d) tt .0 refl)) (go t)
   where
-    go : (b : Bool) → Small (pi32 false) (cond b (pi32 s) (fin s 0 e))
+    go : (b : Bool) → Small (signedPi32 false) (cond b (signedPi32 s) (fin s 0 e))
     go true = record { held = tt; most = unfold le lt eq in tt }
-    go false = record { held = tt; most = cross→le (fin false 0 e) (pi32 false) tt tt (omega arith) }
+    go false = record { held = tt; most = cross→le (fin false 0 e) (signedPi32 false) tt tt (omega arith) }
 arc-small (fin s (suc m) e) (fin t n d) = from-arc s (suc m) e t n d (arctanSteps (fin s (suc m) e) (fin t n d)) (arctan-good (fin s (suc m) e) (fin t n d) tt .1 (λ z. omega arith))
 
 -- ---- what `sphericalOf` gives, of any point: an azimuth and an elevation of magnitude at most 360 and 180
 
-degrees-small : (a : Float) → Small (pi32 false) a → Small (nearest 180 1) (mul binary32 a perRadian)
+degrees-small : (a : Float) → Small (signedPi32 false) a → Small (nearest32 180 1) (mul binary32 a perRadian)
 unfolding round mul div ofBits le lt eq
-degrees-small a h = small-mul binary32 (pi32 false) perRadian (nearest 180 1) a perRadian tt tt tt tt h (record { held = tt; most = tt })
+degrees-small a h = small-mul binary32 (signedPi32 false) perRadian (nearest32 180 1) a perRadian tt tt tt tt h (record { held = tt; most = tt })
 
-raised-small : (a : Float) → Small (nearest 180 1) a → Small (nearest 540 1) (add binary32 a full32)
+raised-small : (a : Float) → Small (nearest32 180 1) a → Small (nearest32 540 1) (add binary32 a full32)
 unfolding round add ofBits le lt eq
-raised-small a h = small-add binary32 (nearest 180 1) full32 (nearest 540 1) a full32 tt tt tt tt h (record { held = tt; most = tt })
+raised-small a h = small-add binary32 (nearest32 180 1) full32 (nearest32 540 1) a full32 tt tt tt tt h (record { held = tt; most = tt })
 
 pub azimuth-small : (p : Point3) → Small full32 (sphericalOf p .azimuth)
 unfolding sphericalOf
@@ -135,23 +135,23 @@ azimuth-small p = small-rem binary32 _ full32 (raised-small _ (degrees-small _ (
     full-fits : T (fits binary32 full32)
     full-fits = unfold ofBits fits in tt
 
-pub elevation-small : (p : Point3) → Small (nearest 180 1) (sphericalOf p .elevation)
+pub elevation-small : (p : Point3) → Small (nearest32 180 1) (sphericalOf p .elevation)
 unfolding sphericalOf
 elevation-small p = degrees-small _ (arc-small (p .z) (rootOf (flatOf p)))
 
 -- ---- a point whose coordinates are at most 10001
 
-coordinate-small : (x : Float) → limits.within 10001 1 x ≡ true → Small (nearest 10001 1) x
+coordinate-small : (x : Float) → limits.within 10001 1 x ≡ true → Small (nearest32 10001 1) x
 unfolding limits.within round neg
-coordinate-small x e = between-small (nearest 10001 1) x (between-finite (neg (nearest 10001 1)) (nearest 10001 1) x tt tt e) (between-low (neg (nearest 10001 1)) (nearest 10001 1) x e) (between-high (neg (nearest 10001 1)) (nearest 10001 1) x e)
+coordinate-small x e = between-small (nearest32 10001 1) x (between-finite (neg (nearest32 10001 1)) (nearest32 10001 1) x tt tt e) (between-low (neg (nearest32 10001 1)) (nearest32 10001 1) x e) (between-high (neg (nearest32 10001 1)) (nearest32 10001 1) x e)
 
-square-small : (x : Float) → Small (nearest 10001 1) x → Small (nearest 100100000 1) (mul binary32 x x)
+square-small : (x : Float) → Small (nearest32 10001 1) x → Small (nearest32 100100000 1) (mul binary32 x x)
 unfolding round mul le lt eq
-square-small x h = small-mul binary32 (nearest 10001 1) (nearest 10001 1) (nearest 100100000 1) x x tt tt tt tt h h
+square-small x h = small-mul binary32 (nearest32 10001 1) (nearest32 10001 1) (nearest32 100100000 1) x x tt tt tt tt h h
 
-flat-small : (x y : Float) → Small (nearest 100100000 1) x → Small (nearest 100100000 1) y → Small (nearest 200200000 1) (add binary32 x y)
+flat-small : (x y : Float) → Small (nearest32 100100000 1) x → Small (nearest32 100100000 1) y → Small (nearest32 200200000 1) (add binary32 x y)
 unfolding round add le lt eq
-flat-small x y h k = small-add binary32 (nearest 100100000 1) (nearest 100100000 1) (nearest 200200000 1) x y tt tt tt tt h k
+flat-small x y h k = small-add binary32 (nearest32 100100000 1) (nearest32 100100000 1) (nearest32 200200000 1) x y tt tt tt tt h k
 
 -- the root of what is finite and not negative is finite
 root-finite : (x : Float) → T (fits binary32 x) → T (finite x) → T (nonneg x) → T (finite (rootOf x))

@@ -12,7 +12,7 @@ use lib.Ieee.Fits.{mul-fits}
 use Rattle.floats.specs.Floats.{zero32}
 use Rattle.floats.proofs.Preorder.{le-trans-f}
 use Rattle.points.specs.declared.Point3.{Point3}
-use Rattle.limits.specs.Allowed.{nearest, between, within, radiusOk, cartesianOk, positionOk}
+use Rattle.limits.specs.Allowed.{nearest32, between, within, radiusOk, cartesianOk, positionOk}
 use Rattle.limits.proofs.Passed.{Allowed}
 use Rattle.limits.proofs.Ends.{between-low, between-high, radius-finite}
 use Rattle.coords.specs.declared.Spherical.{Spherical}
@@ -31,19 +31,19 @@ pub record Inside (p : Point3) : Type 0 where
 
 -- 10000, 10000.5 and 10001
 abbrev b0 : Float
-b0 = nearest 10000 1
+b0 = nearest32 10000 1
 
 abbrev b1 : Float
-b1 = nearest 20001 2
+b1 = nearest32 20001 2
 
 abbrev b2 : Float
-b2 = nearest 10001 1
+b2 = nearest32 10001 1
 
 radius-small : (r : Float) → radiusOk r ≡ true → Small b0 r
 unfolding radiusOk round neg le lt eq
 radius-small r e =
-    let lo : T (le (nearest 0 1) r) = between-low (nearest 0 1) b0 r e in
-    between-small b0 r (radius-finite r e) (le-trans-f (neg b0) (nearest 0 1) r tt lo) (between-high (nearest 0 1) b0 r e)
+    let lo : T (le (nearest32 0 1) r) = between-low (nearest32 0 1) b0 r e in
+    between-small b0 r (radius-finite r e) (le-trans-f (neg b0) (nearest32 0 1) r tt lo) (between-high (nearest32 0 1) b0 r e)
 
 -- a turn shrinks or stretches by at most 1 + 2^-20
 once : (c r : Float) → Small rim c → Small b0 r → Small b1 (mul binary32 c r)
@@ -64,9 +64,9 @@ both true false p q = absurd q
 both false b p q = absurd p
 
 -- a size at most b, for an end b that is no less than zero
-pub small-within : (a b : ℕ) (x : Float) → T (le (neg zero32) (nearest a b)) → T (le (neg (nearest a b)) zero32) → Small (nearest a b) x → within a b x ≡ true
+pub small-within : (a b : ℕ) (x : Float) → T (le (neg zero32) (nearest32 a b)) → T (le (neg (nearest32 a b)) zero32) → Small (nearest32 a b) x → within a b x ≡ true
 unfolding within between
-small-within a b x l k h = let s = small-between (nearest a b) x l k h in both (le (neg (nearest a b)) x) (le x (nearest a b)) (s .0) (s .1)
+small-within a b x l k h = let s = small-between (nearest32 a b) x l k h in both (le (neg (nearest32 a b)) x) (le x (nearest32 a b)) (s .0) (s .1)
 
 small-inside : (x : Float) → Small b2 x → within 10001 1 x ≡ true
 unfolding round neg le lt eq

@@ -12,7 +12,7 @@ use Rattle.floats.proofs.Cross.{cross→le}
 use Rattle.sines.specs.Steps.{dist}
 use Rattle.sines.specs.Sines.{plusZero, inRange, sineSteps, cosineSteps}
 use Rattle.angles.specs.Says.{sinOf, cosOf}
-use Rattle.angle_laws.specs.Angle.{Ratio, piTop, piBot, quarters, turn, restTop, restBot, restNeg, pickS, pickC, sine, cosine, S, C, within}
+use Rattle.angle_laws.specs.Angle.{Ratio, piTop, piBot, quarters, turn, restTop, restBot, restNeg, pickS, pickC, sine, cosine, S, C, closeTo}
 use Rattle.angle_laws.proofs.Chosen.{sin-le, cos-le}
 use Rattle.angle_laws.proofs.Reduce.{rest-small, rest-proper}
 use Rattle.angle_laws.proofs.Line.{sin-bot-pos, cos-bot-pos}
@@ -96,8 +96,8 @@ C-proper (fin s m e) =
 abbrev pub rim : Float
 rim = fin false 1048577 (negsuc 19)
 
-near-rim : (x : Float) (ρ : Ratio) → Proper ρ → within 1048576 x ρ → Small rim x
-unfolding within
+near-rim : (x : Float) (ρ : Ratio) → Proper ρ → closeTo 1048576 x ρ → Small rim x
+unfolding closeTo
 near-rim nan ρ p w = absurd w
 near-rim (inf s) ρ p w = absurd w
 near-rim (fin s m e) ρ p w =

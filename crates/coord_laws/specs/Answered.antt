@@ -14,7 +14,7 @@ use Rattle.root.specs.Root.{rootOf}
 use Rattle.sines.specs.Sines.{inRange}
 use Rattle.angles.specs.declared.Answer.the-variants.{Value}
 use Rattle.angles.specs.Says.{atan2Of, sineSays, cosineSays, arctanSays}
-use Rattle.angle_laws.specs.Angle.{S, C, within}
+use Rattle.angle_laws.specs.Angle.{S, C, closeTo}
 use Rattle.angle_laws.specs.Asked.{Arctan}
 use Rattle.limits.specs.declared.Verdict.the-variants.{Fine}
 use Rattle.limits.specs.Refusals.{verdictOf, valueLines}
@@ -31,8 +31,8 @@ pub record TurnAnswered (degrees : Float) : Type 0 where
   pub in-range : T (inRange (radians degrees))
   pub sine-says : sineSays (radians degrees) ≡ Value (turnOf degrees .sin)
   pub cosine-says : cosineSays (radians degrees) ≡ Value (turnOf degrees .cos)
-  pub near-sine : within 1048576 (turnOf degrees .sin) (S (radians degrees))
-  pub near-cosine : within 1048576 (turnOf degrees .cos) (C (radians degrees))
+  pub near-sine : closeTo 1048576 (turnOf degrees .sin) (S (radians degrees))
+  pub near-cosine : closeTo 1048576 (turnOf degrees .cos) (C (radians degrees))
 
 -- both finite: the call gives the value and no refusal, by document 01's rules
 pub record ArcAnswered (y x : Float) : Type 0 where

@@ -19,9 +19,9 @@ use Rattle.delays.specs.declared.Outcome.the-variants.{Exact, Blended}
 use Rattle.delays.specs.Delays.{secondsOf}
 use Rattle.mix.specs.declared.Share.{Share}
 use Rattle.mix.specs.declared.Points.{Points}
-use Rattle.mix.specs.Mix.{listOf, sums, tailed, plus, outOf, tapOf, sampleOf}
+use Rattle.mix.specs.Mix.{listOf, sums, tailed, plusProduct, outOf, tapOf, sampleOf}
 use Rattle.interpolate.specs.declared.Stride.{Stride}
-use Rattle.interpolate.specs.Blend.{delayAt, plainDelay, blendDelay, at, nowhere, strideOf, entryOf, within, entryIn, good, known, allKnown, least, closer, beside, closestOf, metIf, Held, shareOf, taken, tiny32, close32, Neighbors, neighborsOf, distanceOf, pointsOf, Gathers, Filter, filterOf, extractOf, blendOf, refusedOf, weighedOf, interpolateOf, pick, totalOf, part}
+use Rattle.interpolate.specs.Blend.{delayAt, plainDelay, blendDelay, strideAt, nowhere, strideOf, entryOf, badBeyond, entryIn, good, known, allKnown, least, closer, beside, closestOf, metIf, Held, shareOf, taken, tiny32, close32, Neighbors, neighborsOf, distanceOf, pointsOf, Gathers, Filter, filterOf, extractOf, blendOf, refusedOf, weighedOf, interpolateOf, pickFilter, totalOf, part}
 use Rattle.interpolate.specs.declared.Entry.{Entry}
 use Rattle.interpolate.specs.declared.Entry.the-variants.{Absent, Measured, Bad}
 use Rattle.interpolate.specs.declared.Closest.{Closest}
@@ -50,26 +50,26 @@ module _ (m k : ℕ) where
   entry-bad e h = rw (ne-eqb k 65535 e, le-ltb k m h)
 
   -- one that is met as a measurement is one
-  pub within-below : within m (Measured k) ≡ Measured k → k < m
+  pub within-below : badBeyond m (Measured k) ≡ Measured k → k < m
   within-below e = go (ltb k m) refl e
     where
       go : (b : Bool) → ltb k m ≡ b → cond b (Measured k) Bad ≡ Measured k → k < m
       go true h q = ltb-true k m h
       go false h q = let w : _≡_ {A = ℕ} 0 1 = cc in absurd (omega arith)
 
-within-twice : (m : ℕ) (e : Entry) → within m (within m e) ≡ within m e
+within-twice : (m : ℕ) (e : Entry) → badBeyond m (badBeyond m e) ≡ badBeyond m e
 within-twice m Absent = refl
 within-twice m Bad = refl
 within-twice m (Measured k) = go (ltb k m) refl
   where
-    go : (b : Bool) → ltb k m ≡ b → within m (cond b (Measured k) Bad) ≡ cond b (Measured k) Bad
+    go : (b : Bool) → ltb k m ≡ b → badBeyond m (cond b (Measured k) Bad) ≡ cond b (Measured k) Bad
     go true h = rw h
     go false h = refl
 
-pub met-within : (m k : ℕ) (e : Entry) → e ≡ entryIn m k → within m e ≡ e
+pub met-within : (m k : ℕ) (e : Entry) → e ≡ entryIn m k → badBeyond m e ≡ e
 met-within m k e q = rw q (within-twice m (entryOf k))
 
-good-within : (m : ℕ) (e : Entry) → good (within m e) ≡ true → within m e ≡ e
+good-within : (m : ℕ) (e : Entry) → good (badBeyond m e) ≡ true → badBeyond m e ≡ e
 good-within m Absent h = refl
 good-within m Bad h = let w : _≡_ {A = ℕ} 0 1 = cc in absurd (omega arith)
 good-within m (Measured k) h = go (ltb k m) h
@@ -151,22 +151,22 @@ module _ (p : Points) (f : ℕ → Float) where
 
 -- what f says of each place, weighed and added up as it was computed
 module _ (p : Points) (f : ℕ → Float) (x : Float) (ex : x ≡ f (p .a .number)) where
-  pub weighed1 : p .count ≡ 1 → plus zero32 (p .a .weight) x ≡ sums f zero32 (listOf p)
+  pub weighed1 : p .count ≡ 1 → plusProduct zero32 (p .a .weight) x ≡ sums f zero32 (listOf p)
   unfolding sums
   weighed1 h = rw ex (sums-at p f 1 h)
 
   module _ (y : Float) (ey : y ≡ f (p .b .number)) where
-    pub weighed2 : p .count ≡ 2 → plus (plus zero32 (p .a .weight) x) (p .b .weight) y ≡ sums f zero32 (listOf p)
+    pub weighed2 : p .count ≡ 2 → plusProduct (plusProduct zero32 (p .a .weight) x) (p .b .weight) y ≡ sums f zero32 (listOf p)
     unfolding sums
     weighed2 h = rw (ex, ey) (sums-at p f 2 h)
 
     module _ (z : Float) (ez : z ≡ f (p .c .number)) where
-      pub weighed3 : p .count ≡ 3 → plus (plus (plus zero32 (p .a .weight) x) (p .b .weight) y) (p .c .weight) z ≡ sums f zero32 (listOf p)
+      pub weighed3 : p .count ≡ 3 → plusProduct (plusProduct (plusProduct zero32 (p .a .weight) x) (p .b .weight) y) (p .c .weight) z ≡ sums f zero32 (listOf p)
       unfolding sums
       weighed3 h = rw (ex, ey, ez) (sums-at p f 3 h)
 
       pub weighed4 : (v : Float) → v ≡ f (p .d .number) → p .count ≡ 4
-          → plus (plus (plus (plus zero32 (p .a .weight) x) (p .b .weight) y) (p .c .weight) z) (p .d .weight) v ≡ sums f zero32 (listOf p)
+          → plusProduct (plusProduct (plusProduct (plusProduct zero32 (p .a .weight) x) (p .b .weight) y) (p .c .weight) z) (p .d .weight) v ≡ sums f zero32 (listOf p)
       unfolding sums
       weighed4 v ev h = rw (ex, ey, ez, ev) (sums-at p f 4 h)
 
@@ -235,7 +235,7 @@ held-closer m d b k hk h = go (lt (d k) (least b))
     go true = hk
     go false = h
 
-held-beside : (m : ℕ) (d : ℕ → Float) (b : Closest) (e : Entry) → within m e ≡ e → Held m b → Held m (beside d b e)
+held-beside : (m : ℕ) (d : ℕ → Float) (b : Closest) (e : Entry) → badBeyond m e ≡ e → Held m b → Held m (beside d b e)
 held-beside m d b Absent w h = h
 held-beside m d b (Measured k) w h = held-closer m d b k (within-below m k w) h
 held-beside m d b Bad w h = h
@@ -266,15 +266,15 @@ divided-list p sum a b c d ea eb ec ed = rw (ea, eb, ec, ed) (take-map (part sum
 
 -- ---- delays
 module _ (len m r e : ℕ) where
-  pub by-one : len ≡ m → at 1 0 ≡ strideOf len m r e
+  pub by-one : len ≡ m → strideAt 1 0 ≡ strideOf len m r e
   unfolding strideOf
   by-one h = rw (eq-eqb len m h)
 
-  pub by-each : (len ≡ m → ⊥) → m * r ≤ len → at r e ≡ strideOf len m r e
+  pub by-each : (len ≡ m → ⊥) → m * r ≤ len → strideAt r e ≡ strideOf len m r e
   unfolding strideOf
   by-each g h = rw (ne-eqb len m g, le-leb (m * r) len h)
 
-  pub by-two : (len ≡ m → ⊥) → len < m * r → r ≤ len → at 0 e ≡ strideOf len m r e
+  pub by-two : (len ≡ m → ⊥) → len < m * r → r ≤ len → strideAt 0 e ≡ strideOf len m r e
   unfolding strideOf
   by-two g h i = rw (ne-eqb len m g, lt-leb (m * r) len h, le-leb r len i)
 
@@ -290,8 +290,8 @@ module _ (len m r e : ℕ) where
       each : m * r ≤ len → k * r + e < len
       each g = omega (arith, suc-mul k r, mul-le-mul-right r hk)
 
-      go : (a b c : Bool) → eqb len m ≡ a → leb (m * r) len ≡ b → leb r len ≡ c → cond a (at 1 0) (cond b (at r e) (cond c (at 0 e) nowhere)) .some ≡ true
-          → k * cond a (at 1 0) (cond b (at r e) (cond c (at 0 e) nowhere)) .times + cond a (at 1 0) (cond b (at r e) (cond c (at 0 e) nowhere)) .plus < len
+      go : (a b c : Bool) → eqb len m ≡ a → leb (m * r) len ≡ b → leb r len ≡ c → cond a (strideAt 1 0) (cond b (strideAt r e) (cond c (strideAt 0 e) nowhere)) .some ≡ true
+          → k * cond a (strideAt 1 0) (cond b (strideAt r e) (cond c (strideAt 0 e) nowhere)) .times + cond a (strideAt 1 0) (cond b (strideAt r e) (cond c (strideAt 0 e) nowhere)) .plus < len
       go true b c ea eb ec t = omega (arith, eqb-true len m ea)
       go false true c ea eb ec t = each (leb-true (m * r) len eb)
       go false false true ea eb ec t = omega (arith, leb-true r len ec)
@@ -328,24 +328,24 @@ module _ (m r n : ℕ) (resp delays : List Float) (rate : Float) (ll rl : ℕ) (
   answer = interpolateOf m r n resp delays rate ll rl cart near q k
 
   pub way-close : {o : Filter} (x : Float) → o ≡ extractOf m r n resp delays rate ll rl k → x ≡ distanceOf cart q k → lt x close32 ≡ true → o ≡ answer
-  unfolding interpolateOf pick
+  unfolding interpolateOf pickFilter
   way-close x eo e h = eo ∙ rw (← e, h)
 
   abbrev here : Gathered → Type 0
   here g = Gathers m (allKnown m (neighborsOf near k)) (pointsOf (distanceOf cart q) (neighborsOf near k) k) g
 
   pub way-refused : {o : Filter} (x : Float) (g : Gathered) → o ≡ refusedOf 9 0 ll rl → x ≡ distanceOf cart q k → lt x close32 ≡ false → here g → g ≡ gathered.Bad → o ≡ answer
-  unfolding interpolateOf pick
+  unfolding interpolateOf pickFilter
   way-refused x g eo e h w eg = let a = subst here eg w in eo ∙ rw (← e, h, a)
 
   pub way-light : {o : Filter} (x : Float) (p : Points) (t : Float) → o ≡ extractOf m r n resp delays rate ll rl k → x ≡ distanceOf cart q k → lt x close32 ≡ false → here (gathered.Points p)
       → t ≡ totalOf (listOf p) → lt t tiny32 ≡ true → o ≡ answer
-  unfolding interpolateOf weighedOf pick
+  unfolding interpolateOf weighedOf pickFilter
   way-light x p t eo e h w et ht = eo ∙ rw (← e, h, w .0, ← w .1, ← et, ht)
 
   pub way-blended : {o : Filter} (x : Float) (p : Points) (t : Float) (qs : List Share) → o ≡ blendOf m r n resp delays rate ll rl qs → x ≡ distanceOf cart q k → lt x close32 ≡ false → here (gathered.Points p)
       → t ≡ totalOf (listOf p) → lt t tiny32 ≡ false → qs ≡ map (part t) (listOf p) → o ≡ answer
-  unfolding interpolateOf weighedOf pick
+  unfolding interpolateOf weighedOf pickFilter
   way-blended x p t qs eo e h w et ht eq = eo ∙ rw (← e, h, w .0, ← w .1, ← et, ht, ← eq)
 
 -- ---- an answer and two outputs, as they were made

@@ -47,13 +47,13 @@ unfoldable pub entryOf : ℕ → Entry
 entryOf k = cond (eqb k 65535) Absent (Measured k)
 
 -- as the blend meets it: bad is one that "is neither absent nor below M"
-abbrev pub within : ℕ → Entry → Entry
-within m Absent = Absent
-within m (Measured k) = cond (ltb k m) (Measured k) Bad
-within m Bad = Bad
+abbrev pub badBeyond : ℕ → Entry → Entry
+badBeyond m Absent = Absent
+badBeyond m (Measured k) = cond (ltb k m) (Measured k) Bad
+badBeyond m Bad = Bad
 
 abbrev pub entryIn : ℕ → ℕ → Entry
-entryIn m k = within m (entryOf k)
+entryIn m k = badBeyond m (entryOf k)
 
 abbrev pub good : Entry → Bool
 good Absent = true
@@ -147,15 +147,15 @@ part s p = record { number = p .number; weight = div binary32 (p .weight) s }
 
 -- ---- delays, in samples, for receiver e
 -- where measurement k's stands: at k * times + plus, or nowhere
-abbrev pub at : ℕ → ℕ → Stride
-at times plus = record { some = true; times = times; plus = plus }
+abbrev pub strideAt : ℕ → ℕ → Stride
+strideAt times plus = record { some = true; times = times; plus = plus }
 
 abbrev pub nowhere : Stride
 nowhere = record { some = false; times = 0; plus = 0 }
 
 -- "by their count L: L = M, one per measurement for both ears; else L ≥ M·R, per measurement and receiver; else L ≥ R, first two for all; else 0"
 unfoldable pub strideOf : ℕ → ℕ → ℕ → ℕ → Stride
-strideOf len m r e = cond (eqb len m) (at 1 0) (cond (leb (m * r) len) (at r e) (cond (leb r len) (at 0 e) nowhere))
+strideOf len m r e = cond (eqb len m) (strideAt 1 0) (cond (leb (m * r) len) (strideAt r e) (cond (leb r len) (strideAt 0 e) nowhere))
 
 abbrev pub delayAt : List Float → Stride → ℕ → Float
 delayAt delays s k = getD delays (k * s .times + s .plus) nan
@@ -176,9 +176,9 @@ pub record Filter : Type 0 where
 abbrev pub filterOf : Outcome → List Float → List Float → Filter
 filterOf o l r = record { answer = o; left = l; right = r }
 
-unfoldable pub pick : Bool → Filter → Filter → Filter
-pick true a b = a
-pick false a b = b
+unfoldable pub pickFilter : Bool → Filter → Filter → Filter
+pickFilter true a b = a
+pickFilter false a b = b
 
 -- refused: every sample of outputs of these two lengths is +0
 abbrev pub refusedOf : ℕ → ℕ → ℕ → ℕ → Filter
@@ -203,10 +203,10 @@ module _ (m r n : ℕ) (resp delays : List Float) (rate : Float) (ll rl : ℕ) w
 
   -- the points ps before the division; the nearest is k
   unfoldable pub weighedOf : ℕ → List Share → Filter
-  weighedOf k ps = pick (lt (totalOf ps) tiny32) (extractOf k) (blendOf (map (part (totalOf ps)) ps))
+  weighedOf k ps = pickFilter (lt (totalOf ps) tiny32) (extractOf k) (blendOf (map (part (totalOf ps)) ps))
 
   -- the query q, whose nearest measurement is k: the exact filter where k is close, a refusal where an entry is bad, else the blend
   unfoldable pub interpolateOf : List Float → List ℕ → Point3 → ℕ → Filter
   interpolateOf cart near q k =
-      pick (lt (distanceOf cart q k) close32) (extractOf k)
-      (pick (allKnown m (neighborsOf near k)) (weighedOf k (pointsOf (distanceOf cart q) (neighborsOf near k) k)) (refusedOf 9 0 ll rl))
+      pickFilter (lt (distanceOf cart q k) close32) (extractOf k)
+      (pickFilter (allKnown m (neighborsOf near k)) (weighedOf k (pointsOf (distanceOf cart q) (neighborsOf near k) k)) (refusedOf 9 0 ll rl))

@@ -4,7 +4,7 @@
 // `interpolateOf` and `extractOf` (specs/Blend.antt) say for every input what is answered and what both outputs then hold, sample by sample.
 // What may be missing or bad is a named outcome (`Entry`, `Closest`, `Met`, `Gathered`), opened where it is met: a bad entry leaves with its refusal.
 // The query is measured as given, never drawn to the measured radii. What is blended of each ear is crate `mix`'s; laws of the weights are
-// crate `weights`'s.
+// crate `interpolate_laws`'s.
 ghost use mathlib.Core.Path.{_≡_};
 ghost use mathlib.Core.Bool.{_&&_};
 ghost use mathlib.Core.List.{[], _∷_, _++_, map};
@@ -12,7 +12,7 @@ ghost use Prim.Native.Nat.{ℕ, _+_, _*_, _≤_, _<_};
 ghost use lib.ListN.{length};
 ghost use Rattle.floats.specs.Floats.{zero32};
 ghost use Rattle.mix.specs.Mix.{sums, listOf, Sized, Placed};
-ghost use Rattle.interpolate.specs.Blend.{distanceOf, entryIn, within, good, least, closer, metIf, closestOf, Held, taken, neighborsOf, pointsOf, allKnown, Gathers, totalOf, part, strideOf, delayAt, plainDelay, blendDelay, filterOf, extractOf, blendOf, refusedOf, interpolateOf};
+ghost use Rattle.interpolate.specs.Blend.{distanceOf, entryIn, badBeyond, good, least, closer, metIf, closestOf, Held, taken, neighborsOf, pointsOf, allKnown, Gathers, totalOf, part, strideOf, delayAt, plainDelay, blendDelay, filterOf, extractOf, blendOf, refusedOf, interpolateOf};
 ghost use Rattle.interpolate.specs.Blend as Blend;
 use delays::Outcome;
 use delays::Samples;
@@ -93,7 +93,7 @@ fn limit(best: Closest) -> f32
 }
 
 // Measurement k beside the closest so far: it wins where it is strictly closer.
-fn nearer(cartesian: &[f32], position: Point3, best: Closest, k: usize) -> Closest
+fn closer(cartesian: &[f32], position: Point3, best: Closest, k: usize) -> Closest
     requires { ⌜ 3 * k + 2 < length (now cartesian) ⌝ }
     ensures { λ r. ⌜ r ≡ closer (distanceOf (now (cartesian .entry)) position) best k ⌝ }
 {
@@ -106,12 +106,12 @@ fn nearer(cartesian: &[f32], position: Point3, best: Closest, k: usize) -> Close
 
 // An entry beside the closest so far.
 fn meet(cartesian: &[f32], position: Point3, m: usize, best: Closest, e: Entry) -> Met
-    requires { ⌜ (within m e ≡ e) × (3 * m ≤ length (now cartesian)) ⌝ }
+    requires { ⌜ (badBeyond m e ≡ e) × (3 * m ≤ length (now cartesian)) ⌝ }
     ensures { λ r. ⌜ r ≡ metIf (good e) (Blend.beside (distanceOf (now (cartesian .entry)) position) best e) ⌝ }
 {
     match e {
         Entry::Absent => Met::Best(best),
-        Entry::Measured(k) => Met::Best(nearer(cartesian, position, best, k)),
+        Entry::Measured(k) => Met::Best(closer(cartesian, position, best, k)),
         Entry::Bad => Met::Bad,
     }
 }

@@ -21,7 +21,7 @@ use Rattle.kdtree.specs.Geometry.{boxAt, grown}
 use Rattle.kdtree.specs.Tree.{subtree}
 use Rattle.kdtree.specs.Search.{search, bestOf}
 use Rattle.kdtree.specs.Insert.{Lists, storedAs, treeOf, slotIn, written, linkedLeft, linkedRight, hasRoom, bySlot, insertOf}
-use Rattle.kdtree.specs.Nearest.{readable, numberOf, startAt, startOf, foundFrom, placeOf, nearestOf}
+use Rattle.kdtree.specs.Nearest.{readable, numberOf, startAt, startAtRoot, foundFrom, placeFound, nearestOf}
 use Rattle.kdtree.proofs.Nodes.{subtree-below, found-below, slot-below, OwnerBelow}
 
 -- both of two tests
@@ -64,7 +64,7 @@ module _ (a : Lists) (c : ℕ) (b : BoundingBox) (q : Point3) where
   unfolding nearestOf
   nothing-in e z = simp (e, eq-eqb _ _ z)
 
-  module _ (h : Readable a c) (some : c ≡ 0 → ⊥) (w : Searched) (ew : w ≡ placeOf (a .positions) (a .left) (a .right) c b q) where
+  module _ (h : Readable a c) (some : c ≡ 0 → ⊥) (w : Searched) (ew : w ≡ placeFound (a .positions) (a .left) (a .right) c b q) where
     pub read : numberOf (a .numbers) w ≡ nearestOf a c b q
     unfolding nearestOf
     read =
@@ -82,7 +82,7 @@ module _ (a : Lists) (c : ℕ) (b : BoundingBox) (q : Point3) where
     pub found-in : (r : Best) → w ≡ Found r → r .place < c
     unfolding foundFrom startAt
     found-in r e =
-        found-below c c q (treeOf a c c) b 0 (startOf (a .positions) q) r (subtree-below (a .left) (a .right) (a .positions) c c 0 (omega arith)) (omega arith)
+        found-below c c q (treeOf a c c) b 0 (startAtRoot (a .positions) q) r (subtree-below (a .left) (a .right) (a .positions) c c 0 (omega arith)) (omega arith)
         (sym e ∙ ew)
 
 -- the search from a root, in the terms of the code: the point that stands there, its distance, and what the search says of them

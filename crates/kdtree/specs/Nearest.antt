@@ -26,11 +26,11 @@ unfoldable pub foundFrom : List Float → List ℕ → List ℕ → ℕ → ℕ 
 foundFrom positions left right c root b q = search c q (subtree left right positions c c root) b 0 (startAt positions root q)
 
 -- the root of a tree that inserts filled is place 0
-abbrev pub startOf : List Float → Point3 → Best
-startOf positions q = startAt positions 0 q
+abbrev pub startAtRoot : List Float → Point3 → Best
+startAtRoot positions q = startAt positions 0 q
 
-abbrev pub placeOf : List Float → List ℕ → List ℕ → ℕ → BoundingBox → Point3 → Searched
-placeOf positions left right c b q = foundFrom positions left right c 0 b q
+abbrev pub placeFound : List Float → List ℕ → List ℕ → ℕ → BoundingBox → Point3 → Searched
+placeFound positions left right c b q = foundFrom positions left right c 0 b q
 
 -- no list is shorter than the count asks, and at most 16384 are in
 abbrev pub lengthsFor : ℕ → ℕ → ℕ → ℕ → ℕ → Bool
@@ -46,6 +46,6 @@ numberOf numbers Stopped = Refused 9 0
 
 unfoldable pub nearestOf : Lists → ℕ → BoundingBox → Point3 → Named
 nearestOf a c b q =
-    let found = numberOf (a .numbers) (placeOf (a .positions) (a .left) (a .right) c b q) in
+    let found = numberOf (a .numbers) (placeFound (a .positions) (a .left) (a .right) c b q) in
     let r = cond (eqb c 0) Nothing found in
     cond (readable a c) r (Refused 3 0)

@@ -5,7 +5,7 @@
 // (`nearestOf`, specs/Nearest.antt); neither asks anything of its caller. The definitions follow document 01's "Distance, tree,
 // tie": distances and boxes in specs/Geometry.antt, the tree that the links draw in specs/Tree.antt, the pruned search in
 // specs/Search.antt, the unpruned walk in specs/Unpruned.antt. What the answers mean for the points inserted (demand 3) is the
-// crate `walks`.
+// crate `kdtree_laws`.
 use points::Point3;
 ghost use mathlib.Core.Path.{_≡_};
 ghost use mathlib.Core.Bool.{cond};

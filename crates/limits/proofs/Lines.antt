@@ -7,27 +7,27 @@ use native.Mathlib.Omega.{arith}
 use borrow.Author.Tests.{not-false}
 use Rattle.limits.specs.declared.Verdict.{Verdict}
 use Rattle.limits.specs.declared.Verdict.the-variants.{Fine, Refused}
-use Rattle.limits.specs.Refusals.{Check, verdictOf, pick}
+use Rattle.limits.specs.Refusals.{Check, verdictOf, pickVerdict}
 
 never : {n p : ℕ} → Refused n p ≡ Fine → ⊥
 never e = let z : _≡_ {A = ℕ} 0 1 = cc in omega arith
 
 -- a line that is met gives its number and place
 pub stops : (c : Check) (cs : List Check) → c .met ≡ true → verdictOf (c ∷ cs) ≡ Refused (c .number) (c .place)
-unfolding verdictOf pick
+unfolding verdictOf pickVerdict
 stops c cs e = rw e
 
 -- one that is not leaves the verdict to those after it
 pub goes-on : (c : Check) (cs : List Check) → c .met ≡ false → verdictOf (c ∷ cs) ≡ verdictOf cs
-unfolding verdictOf pick
+unfolding verdictOf pickVerdict
 goes-on c cs e = rw e
 
 pub none : verdictOf [] ≡ Fine
 unfolding verdictOf
 none = refl
 
-picked : (b : Bool) (n p : ℕ) (v : Verdict) → pick b (Refused n p) v ≡ Fine → (b ≡ false) × (v ≡ Fine)
-unfolding pick
+picked : (b : Bool) (n p : ℕ) (v : Verdict) → pickVerdict b (Refused n p) v ≡ Fine → (b ≡ false) × (v ≡ Fine)
+unfolding pickVerdict
 picked true n p v e = absurd (never e)
 picked false n p v e = (refl, e)
 

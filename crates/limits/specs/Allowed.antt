@@ -10,8 +10,8 @@ use Rattle.limits.specs.declared.TreeLengths.{TreeLengths}
 use Rattle.limits.specs.declared.Lengths.{Lengths}
 
 -- the f32 nearest a / b
-abbrev pub nearest : ℕ → ℕ → Float
-nearest a b = round binary32 false a b
+abbrev pub nearest32 : ℕ → ℕ → Float
+nearest32 a b = round binary32 false a b
 
 -- lo ≤ x ≤ hi: never for a NaN
 unfoldable pub between : Float → Float → Float → Bool
@@ -19,7 +19,7 @@ between lo hi x = le lo x && le x hi
 
 -- of magnitude at most the f32 nearest a / b
 unfoldable pub within : ℕ → ℕ → Float → Bool
-within a b x = between (neg (nearest a b)) (nearest a b) x
+within a b x = between (neg (nearest32 a b)) (nearest32 a b) x
 
 -- ---- sizes and lent lists
 
@@ -65,7 +65,7 @@ angleOk x = within 720 1 x
 
 -- from 0 on, and -0 is no less than 0
 unfoldable pub radiusOk : Float → Bool
-radiusOk x = between (nearest 0 1) (nearest 10000 1) x
+radiusOk x = between (nearest32 0 1) (nearest32 10000 1) x
 
 -- the value x at the index i of a list of positions
 unfoldable pub positionOk : ℕ → ℕ → Float → Bool
@@ -83,10 +83,10 @@ firstBad ok xs n = badFrom ok 0 (take n xs)
 -- ---- steps and rate
 
 unfoldable pub angleStepOk : Float → Bool
-angleStepOk x = between (nearest 1 10) (nearest 45 1) x
+angleStepOk x = between (nearest32 1 10) (nearest32 45 1) x
 
 unfoldable pub radiusStepOk : Float → Bool
-radiusStepOk x = between (nearest 1 1000) (nearest 1 1) x
+radiusStepOk x = between (nearest32 1 1000) (nearest32 1 1) x
 
 unfoldable pub rateOk : Float → Bool
-rateOk x = between (nearest 1000 1) (nearest 384000 1) x
+rateOk x = between (nearest32 1000 1) (nearest32 384000 1) x

@@ -20,14 +20,14 @@ pub record Check : Type 0 where
   pub met : Bool
   pub place : ℕ
 
-unfoldable pub pick : Bool → Verdict → Verdict → Verdict
-pick true a b = a
-pick false a b = b
+unfoldable pub pickVerdict : Bool → Verdict → Verdict → Verdict
+pickVerdict true a b = a
+pickVerdict false a b = b
 
 -- the first line that is met, else Fine
 unfoldable pub verdictOf : List Check → Verdict
 verdictOf [] = Fine
-verdictOf (c ∷ cs) = pick (c .met) (Refused (c .number) (c .place)) (verdictOf cs)
+verdictOf (c ∷ cs) = pickVerdict (c .met) (Refused (c .number) (c .place)) (verdictOf cs)
 
 -- a verdict as 01's numbers: 0 and 0 for none
 abbrev pub reasonOf : Verdict → ℕ

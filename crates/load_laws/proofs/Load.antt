@@ -18,7 +18,7 @@ use Rattle.lookup.specs.declared.Located.{Located}
 use Rattle.lookup.specs.declared.Located.the-variants.{At}
 use Rattle.lookup.specs.Build.{linked}
 use Rattle.lookup.proofs.Links.{linked-left, linked-right}
-use Rattle.lookup.specs.Lookup.{clampedBy, locateOf, unless, findOf, movedAs, movedBy, findMutOf, pointIn, putPoint}
+use Rattle.lookup.specs.Lookup.{clampedBy, locateOf, unless, findOf, movedAs, movedIfFound, findMutOf, pointIn, putPoint}
 use Rattle.mix.specs.Mix.{startOf}
 use Rattle.interpolate.specs.Blend.{Filter, extractOf}
 use Rattle.delays.specs.Delays.{secondsOf}
@@ -27,7 +27,7 @@ use Rattle.stored.specs.declared.Around.the-variants.{Six}
 use Rattle.stored.specs.declared.MaxDelay.the-variants.{Delay}
 use Rattle.stored.specs.Longest.{greatest, longestOf, maxBy, maxDelayOf}
 use Rattle.reader.specs.Queries.{allowed, nearestOr, filterSays, plainSays, numberSays}
-use Rattle.stored.specs.Numbers.{partBy, partOf, within, responseOf, aroundBy, aroundOf, entriesOf}
+use Rattle.stored.specs.Numbers.{partBy, partOf, tapsIn, responseOf, aroundBy, aroundOf, entriesOf}
 use Rattle.loads.specs.declared.Loaded.the-variants.{Ready, Refused}
 use Rattle.loads.specs.Load.{Work, Load, cartesianFrom, indexed, loadBy, loadOf}
 use Rattle.loads.proofs.Ways.{as-long}
@@ -114,8 +114,8 @@ module _ (g : Given) (fine : judged g ≡ Fine) where
   finds q f = ap (λ (v : Verdict). unless v (found q)) (find-fine g fine q f) ∙ same .port-finds q
 
   moves : (l : List Float) → Finite (pointIn l) → portFindMut g w look l ≡ movedAs (At (same .number (pointIn l))) (putPoint l (clampedBy look (pointIn l)))
-  unfolding findMutOf movedBy
-  moves l f = ap (λ (r : Located). movedBy r look l) (finds (pointIn l) f)
+  unfolding findMutOf movedIfFound
+  moves l f = ap (λ (r : Located). movedIfFound r look l) (finds (pointIn l) f)
 
   filters : (q : Point3) → Finite q → (out : source.Filter) → portFilter g w look q out ≡ told (wayIn (same .sofar) (same .number q) q) (filter (same .sofar) (q .x) (q .y) (q .z) out)
   unfolding filterSays
@@ -159,9 +159,9 @@ module _ (g : Given) (fine : judged g ≡ Fine) where
 
   -- the part of an ear, where it starts at a
   response : (k e a : ℕ) → k < g .sizes .m → a ≡ startOf (g .sizes .r) (g .sizes .n) e k → responseOf (g .sizes) (g .responses) k e ≡ take (g .sizes .n) (drop a (g .responses))
-  unfolding partOf within
+  unfolding partOf tapsIn
   response k e a h ea =
-      ap (λ (v : Verdict). within (partBy v (startOf (g .sizes .r) (g .sizes .n) e k) (g .sizes .n)) (g .responses)) (response-fine g fine k h)
+      ap (λ (v : Verdict). tapsIn (partBy v (startOf (g .sizes .r) (g .sizes .n) e k) (g .sizes .n)) (g .responses)) (response-fine g fine k h)
       ∙ ap (λ (b : ℕ). take (g .sizes .n) (drop b (g .responses))) (sym ea)
 
   around : (k : ℕ) → k < g .sizes .m → aroundOf (g .sizes) (w .neighbours) k ≡ Six (listedSix (same .row k))

@@ -11,7 +11,7 @@ use lib.Ieee.Scale.{finite}
 use borrow.Author.Tests.{eqb-true, ne-eqb}
 use Rattle.lists.specs.Over.{over}
 use Rattle.points.specs.Points.{pointAt, Finite}
-use Rattle.limits.specs.Allowed.{nearest, within, kindOk}
+use Rattle.limits.specs.Allowed.{nearest32, within, kindOk}
 use Rattle.limits.proofs.Passed.{Allowed}
 use Rattle.limits.proofs.Ends.{between-finite}
 use Rattle.coords.specs.Arrays.{turned, byTriplets}
@@ -53,7 +53,7 @@ front-point xs d place h =
 
 within-finite : (x : Float) → within 10001 1 x ≡ true → T (finite x)
 unfolding within round neg
-within-finite x e = between-finite (neg (nearest 10001 1)) (nearest 10001 1) x tt tt e
+within-finite x e = between-finite (neg (nearest32 10001 1)) (nearest32 10001 1) x tt tt e
 
 pub one-of : (k : ℕ) → kindOk (suc k) ≡ true → k ≡ 0
 unfolding kindOk

@@ -6,7 +6,7 @@ use Prim.Native.Nat.{ℕ, _<_}
 use lib.Dec.{T}
 use Rattle.floats.proofs.Preorder.{number}
 use Rattle.points.specs.declared.Point3.{Point3}
-use Rattle.walks.specs.Demand3.{Numbered, distTo, Nearer, NotNearer, Reordered, FirstNearest}
+use Rattle.kdtree_laws.specs.Demand3.{Numbered, distTo, Nearer, NotNearer, Reordered, FirstNearest}
 use Rattle.lookup.specs.declared.Lookup.{Lookup}
 use Rattle.lookup.specs.declared.Located.the-variants.{At}
 use Rattle.lookup.specs.Lookup.{clampedBy}

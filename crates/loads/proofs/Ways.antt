@@ -20,7 +20,7 @@ use Rattle.coords.proofs.Places.{changed-length}
 use Rattle.lookup.specs.declared.Lookup.{Lookup}
 use Rattle.lookup.specs.Build.{Built, linksOf, linked, lookupOf, builtAs, buildOf}
 use Rattle.lookup_laws.specs.Loaded.{Room}
-use Rattle.neighbors.specs.Neighbors.{Tabled, tabledAs, entryOf, markOf, tableOf}
+use Rattle.neighbors.specs.Neighbors.{Tabled, tabledAs, tableEntry, markOf, tableOf}
 use Rattle.neighbor_laws.proofs.Settled as table
 use Rattle.loads.specs.declared.Loaded.the-variants.{Ready, Refused}
 use Rattle.loads.specs.Load.{Work, workOf, Load, loadAs, cartesianFrom, indexed, placedIn, lengthsIn, loadBy, loadOf}
@@ -68,7 +68,7 @@ module _ (m : ℕ) (angle radius : Float) (left right neigh : List ℕ) (xs : Li
   right* = over (linked xs m .right) right
 
   abbrev entry* : ℕ → ℕ
-  entry* k = markOf (entryOf look* m xs left* right* angle radius k)
+  entry* k = markOf (tableEntry look* m xs left* right* angle radius k)
 
   -- the whole table is written, and nothing refused on the way
   pub filled : tableOf look* m xs left* right* angle radius neigh ≡ tabledAs verdict.Fine (over (upto entry* (6 * m)) neigh)

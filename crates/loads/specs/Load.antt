@@ -13,7 +13,7 @@ use Rattle.limits.specs.declared.Verdict.the-variants as verdict
 use Rattle.limits.specs.Refusals.{verdictOf, loadLines}
 use Rattle.coords.specs.Arrays.{turned, byTriplets}
 use Rattle.lookup.specs.Build.{linked, lookupOf}
-use Rattle.neighbors.specs.Neighbors.{entryOf, markOf}
+use Rattle.neighbors.specs.Neighbors.{tableEntry, markOf}
 use Rattle.loads.specs.declared.Loaded.{Loaded}
 use Rattle.loads.specs.declared.Loaded.the-variants.{Ready, Refused}
 
@@ -49,7 +49,7 @@ indexed m angle radius d =
     let look = lookupOf xs m in
     let l = over (linked xs m .left) (d .left) in
     let r = over (linked xs m .right) (d .right) in
-    loadAs (Ready look) (workOf l r (over (upto (λ k. markOf (entryOf look m xs l r angle radius k)) (6 * m)) (d .neighbours)) xs)
+    loadAs (Ready look) (workOf l r (over (upto (λ k. markOf (tableEntry look m xs l r angle radius k)) (6 * m)) (d .neighbours)) xs)
 
 -- the Cartesian list with a set's positions at its front
 abbrev pub placedIn : ℕ → List Float → Work → Work

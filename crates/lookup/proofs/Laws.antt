@@ -14,7 +14,7 @@ use Rattle.kdtree.specs.declared.Best.{Best}
 use Rattle.kdtree.specs.declared.Searched.{Searched}
 use Rattle.kdtree.specs.declared.Searched.the-variants.{Found, Stopped}
 use Rattle.kdtree.specs.Geometry.{boxAt, grown}
-use Rattle.kdtree.specs.Nearest.{placeOf}
+use Rattle.kdtree.specs.Nearest.{placeFound}
 use Rattle.coords.specs.declared.Spherical.{Spherical}
 use Rattle.coords.specs.Coords.{sphericalOf, radiusOf}
 use Rattle.limits.specs.declared.Verdict.{Verdict}
@@ -23,7 +23,7 @@ use Rattle.lookup.specs.declared.Lookup.{Lookup}
 use Rattle.lookup.specs.declared.Located.{Located}
 use Rattle.lookup.specs.declared.Located.the-variants.{At, Refused}
 use Rattle.lookup.specs.Build.{boxTo, boxOf, leastOf, greatestOf, lookupOf, unmeasured, widened}
-use Rattle.lookup.specs.Lookup.{scaled, clampedTo, clampedBy, locatedAs, locateOf, unless, pointIn, putPoint, movedAs, movedBy}
+use Rattle.lookup.specs.Lookup.{scaled, clampedTo, clampedBy, locatedBy, locateOf, unless, pointIn, putPoint, movedAs, movedIfFound}
 
 -- ---- the bounds
 
@@ -68,18 +68,18 @@ module _ (look : Lookup) (p : Point3) (r : Float) (er : r ≡ radiusOf p) where
 
 -- ---- the answers
 
-pub located-found : (w v : Searched) (s : Best) → w ≡ v → w ≡ Found s → At (s .place) ≡ locatedAs v
-unfolding locatedAs
-located-found w v s e f = ap locatedAs (sym f ∙ e)
+pub located-found : (w v : Searched) (s : Best) → w ≡ v → w ≡ Found s → At (s .place) ≡ locatedBy v
+unfolding locatedBy
+located-found w v s e f = ap locatedBy (sym f ∙ e)
 
-pub located-none : (w v : Searched) → w ≡ v → w ≡ Stopped → Refused 9 0 ≡ locatedAs v
-unfolding locatedAs
-located-none w v e f = ap locatedAs (sym f ∙ e)
+pub located-none : (w v : Searched) → w ≡ v → w ≡ Stopped → Refused 9 0 ≡ locatedBy v
+unfolding locatedBy
+located-none w v e f = ap locatedBy (sym f ∙ e)
 
 pub located : (look : Lookup) (m : ℕ) (xs : List Float) (left right : List ℕ) (q p : Point3) (r : Located) → p ≡ clampedBy look q
-    → r ≡ locatedAs (placeOf xs left right m (look .bounds) p) → r ≡ locateOf look m xs left right q
+    → r ≡ locatedBy (placeFound xs left right m (look .bounds) p) → r ≡ locateOf look m xs left right q
 unfolding locateOf
-located look m xs left right q p r ep er = er ∙ ap (λ (x : Point3). locatedAs (placeOf xs left right m (look .bounds) x)) ep
+located look m xs left right q p r ep er = er ∙ ap (λ (x : Point3). locatedBy (placeFound xs left right m (look .bounds) x)) ep
 
 pub answered : (v : Verdict) (r a : Located) → v ≡ verdict.Fine → r ≡ a → r ≡ unless v a
 unfolding unless
@@ -90,12 +90,12 @@ unfolding unless
 refused v a number place e = sym (ap (λ (w : Verdict). unless w a) e)
 
 pub moved-at : (look : Lookup) (l : List Float) (r v : Located) (number : ℕ) (p : Point3) → r ≡ v → r ≡ At number → p ≡ clampedBy look (pointIn l)
-    → movedAs r (putPoint l p) ≡ movedBy v look l
-unfolding movedBy
+    → movedAs r (putPoint l p) ≡ movedIfFound v look l
+unfolding movedIfFound
 moved-at look l r v number p e h ep =
     ap (λ (t : Point3). movedAs r (putPoint l t)) ep ∙ ap (λ (x : Located). movedAs x (putPoint l (clampedBy look (pointIn l)))) h
-    ∙ sym (ap (λ (x : Located). movedBy x look l) (sym e ∙ h))
+    ∙ sym (ap (λ (x : Located). movedIfFound x look l) (sym e ∙ h))
 
-pub moved-not : (look : Lookup) (l : List Float) (r v : Located) (number place : ℕ) → r ≡ v → r ≡ Refused number place → movedAs r l ≡ movedBy v look l
-unfolding movedBy
-moved-not look l r v number place e h = ap (λ (x : Located). movedAs x l) h ∙ sym (ap (λ (x : Located). movedBy x look l) (sym e ∙ h))
+pub moved-not : (look : Lookup) (l : List Float) (r v : Located) (number place : ℕ) → r ≡ v → r ≡ Refused number place → movedAs r l ≡ movedIfFound v look l
+unfolding movedIfFound
+moved-not look l r v number place e h = ap (λ (x : Located). movedAs x l) h ∙ sym (ap (λ (x : Located). movedIfFound x look l) (sym e ∙ h))

@@ -8,7 +8,7 @@ use Rattle.floats.specs.Floats.{zero32}
 use Rattle.points.specs.declared.Point3.{Point3}
 use Rattle.kdtree.specs.declared.Searched.{Searched}
 use Rattle.kdtree.specs.declared.Searched.the-variants.{Found, Stopped}
-use Rattle.kdtree.specs.Nearest.{placeOf}
+use Rattle.kdtree.specs.Nearest.{placeFound}
 use Rattle.coords.specs.Coords.{radiusOf}
 use Rattle.limits.specs.declared.Sizes.{Sizes}
 use Rattle.limits.specs.declared.TreeLengths.{TreeLengths}
@@ -36,13 +36,13 @@ clampedBy look p = clampedTo (look .«radius_min») (look .«radius_max») p
 -- ---- the nearest measurement
 
 -- a measurement's number is its place; document 01's number 9, place 0, for a search that stopped
-unfoldable pub locatedAs : Searched → Located
-locatedAs (Found s) = At (s .place)
-locatedAs Stopped = Refused 9 0
+unfoldable pub locatedBy : Searched → Located
+locatedBy (Found s) = At (s .place)
+locatedBy Stopped = Refused 9 0
 
 -- of the clamped query, in a Cartesian list, links left and right, m places
 unfoldable pub locateOf : Lookup → ℕ → List Float → List ℕ → List ℕ → Point3 → Located
-locateOf look m xs left right q = locatedAs (placeOf xs left right m (look .bounds) (clampedBy look q))
+locateOf look m xs left right q = locatedBy (placeFound xs left right m (look .bounds) (clampedBy look q))
 
 -- ---- find: 2, 3, 7, then 9 on the way
 
@@ -77,9 +77,9 @@ abbrev pub putPoint : List Float → Point3 → List Float
 putPoint l p = set (set (set l 0 (p .x)) 1 (p .y)) 2 (p .z)
 
 -- clamped, or as they were if refused
-unfoldable pub movedBy : Located → Lookup → List Float → Moved
-movedBy (At number) look l = movedAs (At number) (putPoint l (clampedBy look (pointIn l)))
-movedBy (Refused number place) look l = movedAs (Refused number place) l
+unfoldable pub movedIfFound : Located → Lookup → List Float → Moved
+movedIfFound (At number) look l = movedAs (At number) (putPoint l (clampedBy look (pointIn l)))
+movedIfFound (Refused number place) look l = movedAs (Refused number place) l
 
 unfoldable pub findMutOf : Lookup → Sizes → List Float → List ℕ → List ℕ → List Float → Moved
-findMutOf look s xs left right l = movedBy (findOf look s xs left right (pointIn l)) look l
+findMutOf look s xs left right l = movedIfFound (findOf look s xs left right (pointIn l)) look l

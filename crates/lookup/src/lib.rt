@@ -19,8 +19,8 @@ ghost use mathlib.Core.Path.{_≡_};
 ghost use Prim.Native.Nat.{_+_, _*_, _<_, _≤_};
 ghost use lib.ListN.{length};
 ghost use Rattle.lookup.specs.Build.{linksOf, ownedAt, linked, overBoth, unmeasured, widened, lookupOf, builtAs, buildOf};
-ghost use Rattle.lookup.specs.Lookup.{scaled, clampedBy, locatedAs, locateOf, findOf, verdictIn, movedAs, findMutOf};
-ghost use Rattle.kdtree.specs.Nearest.{placeOf};
+ghost use Rattle.lookup.specs.Lookup.{scaled, clampedBy, locatedBy, locateOf, findOf, verdictIn, movedAs, findMutOf};
+ghost use Rattle.kdtree.specs.Nearest.{placeFound};
 
 // Azimuth phi and elevation theta in degrees.
 #[repr(C)]
@@ -157,7 +157,7 @@ impl Lookup {
         p: Point3,
     ) -> Located
         requires { ⌜ (0 < m) × (3 * m ≤ length (now cartesian)) × (m ≤ length (now left)) × (m ≤ length (now right)) × (m ≤ 16384) ⌝ }
-        ensures { λ r. ⌜ r ≡ locatedAs (placeOf (now (cartesian .entry)) (now (left .entry)) (now (right .entry)) m (self .bounds) p) ⌝ }
+        ensures { λ r. ⌜ r ≡ locatedBy (placeFound (now (cartesian .entry)) (now (left .entry)) (now (right .entry)) m (self .bounds) p) ⌝ }
     {
         let searched = kdtree::nearest_place(m, 0, self.bounds, cartesian, left, right, p);
         let Searched::Found(best) = searched else {

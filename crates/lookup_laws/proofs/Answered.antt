@@ -14,7 +14,7 @@ use Rattle.kdtree.specs.Geometry.{boxDistSq, nextAxis, leftFirst}
 use Rattle.kdtree.specs.Tree.{Tree, gone, bad, node}
 use Rattle.kdtree.specs.Search.{search, improve, visited, farther, afterNear, Go}
 use Rattle.kdtree.specs.Unpruned.{size}
-use Rattle.walks.proofs.Pruned.{Clean, search-left, search-right, improve-visits}
+use Rattle.kdtree_laws.proofs.Pruned.{Clean, search-left, search-right, improve-visits}
 
 abbrev pub WithinVisits : ℕ → Searched → Type 0
 WithinVisits v (Found r) = r .visits ≤ v

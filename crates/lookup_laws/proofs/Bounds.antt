@@ -21,7 +21,7 @@ use Rattle.points.specs.Points.{pointAt}
 use Rattle.root.specs.Root.{rootOf}
 use Rattle.root.proofs.Laws.{rootOf-nonneg, rootOf-mono}
 use Rattle.coords.specs.Coords.{radiusOf, sphericalOf}
-use Rattle.limits.specs.Allowed.{nearest, within}
+use Rattle.limits.specs.Allowed.{nearest32, within}
 use Rattle.limits.proofs.Ends.{between-low, between-high}
 use Rattle.lookup.specs.Build.{leastOf, greatestOf, top32, bottom32, lookupOf}
 use Rattle.lookup_laws.specs.Clamp.{Measured, Radii, reach}
@@ -31,7 +31,7 @@ use Rattle.lookup_laws.proofs.Clamp.{bounded, size-square, sum, sum-non
 
 -- 10001, and a bound for its square, three of them, and their root
 abbrev far : Float
-far = nearest 10001 1
+far = nearest32 10001 1
 
 within-size : (c : Float) → within 10001 1 c ≡ true → T (finite c) × T (le (absOf c) far)
 unfolding absOf

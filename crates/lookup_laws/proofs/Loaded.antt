@@ -26,15 +26,15 @@ use Rattle.kdtree.specs.Tree.{Tree, subtree}
 use Rattle.kdtree.specs.Search.{search}
 use Rattle.kdtree.specs.Unpruned.{size}
 use Rattle.kdtree.specs.Insert.{Lists, listsOf, Stored, storedAs, written, linkedLeft, linkedRight, bySlot, insertOf}
-use Rattle.kdtree.specs.Nearest.{startAt, startOf, foundFrom, placeOf}
+use Rattle.kdtree.specs.Nearest.{startAt, startAtRoot, foundFrom, placeFound}
 use Rattle.kdtree.proofs.Nodes.{subtree-below, found-below}
 use Rattle.kdtree.proofs.Whole as whole
-use Rattle.walks.specs.Demand3.{Numbered, Bare, kept, fill, insertInto, Accepted}
-use Rattle.walks.proofs.Rep.{rep-at}
-use Rattle.walks.proofs.Filled.{Filled, Next, first, next, root-clean}
+use Rattle.kdtree_laws.specs.Demand3.{Numbered, Bare, kept, fill, insertInto, Accepted}
+use Rattle.kdtree_laws.proofs.Rep.{rep-at}
+use Rattle.kdtree_laws.proofs.Filled.{Filled, Next, first, next, root-clean}
 use Rattle.lookup.specs.declared.Lookup.{Lookup}
 use Rattle.lookup.specs.Build.{Links, linksOf, ownedBy, slotAt, ownedAt, linked, overBoth, boxTo, boxOf}
-use Rattle.lookup.specs.Lookup.{clampedBy, locatedAs, locateOf}
+use Rattle.lookup.specs.Lookup.{clampedBy, locatedBy, locateOf}
 use Rattle.lookup.proofs.Links.{linked-left, linked-right, turn-over, root-over}
 use Rattle.lookup_laws.specs.Loaded.{placed, placedFrom, Room, lent, filledWith, Below}
 use Rattle.lookup_laws.proofs.Answered.{WithinVisits, answered}
@@ -236,7 +236,7 @@ module _ (xs : List Float) (m : ℕ) (d : Links) (room : Room xs m d) where
   module _ (b : BoundingBox) (q : Point3) where
     pub record Placed : Type 0 where
       pub best : Best
-      pub is : placeOf xs (links m .left) (links m .right) m b q ≡ Found best
+      pub is : placeFound xs (links m .left) (links m .right) m b q ≡ Found best
       pub below : best .place < m
 
     -- FOR ANY BOX AND ANY QUERY a place is found
@@ -247,24 +247,24 @@ module _ (xs : List Float) (m : ℕ) (d : Links) (room : Room xs m d) where
         F = all-drawn
 
         s : Best
-        s = startOf xs q
+        s = startAtRoot xs q
 
         start-small : s .visits + size (F .tree) ≤ m
         start-small = unfold startAt in let z = F .whole in omega arith
 
-        from : search m q (F .tree) b 0 s ≡ placeOf xs (links m .left) (links m .right) m b q
+        from : search m q (F .tree) b 0 s ≡ placeFound xs (links m .left) (links m .right) m b q
         from = unfold foundFrom in ap (λ (t : Tree). search m q t b 0 s) (sym (rep-at (links m .left) (links m .right) xs m (F .small) (F .tree) 0 m (omega arith) (F .rep)))
 
-        small : (r : Best) → placeOf xs (links m .left) (links m .right) m b q ≡ Found r → r .place < m
+        small : (r : Best) → placeFound xs (links m .left) (links m .right) m b q ≡ Found r → r .place < m
         small r e =
             let z = room .some in
             unfold foundFrom startAt in found-below m m q (subtree (links m .left) (links m .right) xs m m 0) b 0 s r (subtree-below (links m .left) (links m .right) xs m m 0 z) z (sym e)
 
-        go : (w : Searched) → w ≡ placeOf xs (links m .left) (links m .right) m b q → WithinVisits (s .visits + size (F .tree)) w → Placed
+        go : (w : Searched) → w ≡ placeFound xs (links m .left) (links m .right) m b q → WithinVisits (s .visits + size (F .tree)) w → Placed
         go (Found r) e v = record { best = r; is = sym e; below = small r (sym e) }
         go Stopped e v = absurd v
 
   -- SO NO SEARCH OVER A LOADED SET IS REFUSED, whatever the box, the bounds and the query
   pub never-refused : (look : Lookup) (q : Point3) → Below m (locateOf look m xs (links m .left) (links m .right) q)
-  unfolding locateOf locatedAs
-  never-refused look q = let P = found (look .bounds) (clampedBy look q) in record { number = P .best .place; is = ap locatedAs (P .is); below = P .below }
+  unfolding locateOf locatedBy
+  never-refused look q = let P = found (look .bounds) (clampedBy look q) in record { number = P .best .place; is = ap locatedBy (P .is); below = P .below }

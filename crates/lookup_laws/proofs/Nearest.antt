@@ -18,21 +18,21 @@ use Rattle.kdtree.specs.declared.BoundingBox.{BoundingBox}
 use Rattle.kdtree.specs.declared.Named.the-variants.{Number}
 use Rattle.kdtree.specs.Geometry.{boxAt}
 use Rattle.kdtree.specs.Insert.{Lists, listsOf}
-use Rattle.kdtree.specs.Nearest.{placeOf, numberOf}
+use Rattle.kdtree.specs.Nearest.{placeFound, numberOf}
 use Rattle.kdtree.specs.Tree.{Tree, subtree}
 use Rattle.kdtree.specs.Unpruned.{Item, order}
 use Rattle.kdtree.proofs.Nodes.{subtree-below}
 use Rattle.kdtree.proofs.Whole as whole
 use Rattle.lists.specs.Each.{Each, In}
-use Rattle.walks.specs.Demand3.{Numbered, Nearer, NotNearer, Reordered, Bare, RoomFor, nearestIn, standing, rootOf, walkNames, visiting, FirstNearest, NamesNearest}
-use Rattle.walks.proofs.Lists.{each-in, each-to, map-same}
-use Rattle.walks.proofs.First.{tf, all-order}
-use Rattle.walks.proofs.Demand3 as demand
+use Rattle.kdtree_laws.specs.Demand3.{Numbered, Nearer, NotNearer, Reordered, Bare, RoomFor, nearestIn, standing, rootIn, walkNames, visiting, FirstNearest, NamesNearest}
+use Rattle.kdtree_laws.proofs.Lists.{each-in, each-to, map-same}
+use Rattle.kdtree_laws.proofs.First.{tf, all-order}
+use Rattle.kdtree_laws.proofs.Demand3 as demand
 use Rattle.lookup.specs.declared.Lookup.{Lookup}
 use Rattle.lookup.specs.declared.Located.{Located}
 use Rattle.lookup.specs.declared.Located.the-variants.{At}
 use Rattle.lookup.specs.Build.{Links, linked, boxOf}
-use Rattle.lookup.specs.Lookup.{clampedBy, locatedAs, locateOf}
+use Rattle.lookup.specs.Lookup.{clampedBy, locatedBy, locateOf}
 use Rattle.lookup.proofs.Links.{linked-left, linked-right}
 use Rattle.lookup_laws.specs.Loaded.{placed, placedFrom, walked, Room, filledWith}
 use Rattle.lookup_laws.proofs.Loaded as built
@@ -113,7 +113,7 @@ module _ (xs : List Float) (k : ℕ) (d : Links) (room : Room xs (suc k) d) wher
     unfolding numberOf
     nearest-is =
         ap (λ (t : Bare). nearestIn t p) (built.loaded xs m d room)
-        ∙ sym (whole.read (listsOf xs left right numbers) m (boxOf xs m) p readable (λ e. omega arith) (placeOf xs left right m (boxOf xs m) p) refl)
+        ∙ sym (whole.read (listsOf xs left right numbers) m (boxOf xs m) p readable (λ e. omega arith) (placeFound xs left right m (boxOf xs m) p) refl)
         ∙ ap (numberOf numbers) (P .is) ∙ ap Number (built.number-at m (P .best .place) (replicate m zero) (P .below))
 
     named : nearestIn tree p ≡ Number (walkNames tree p .number)
@@ -160,8 +160,8 @@ module _ (xs : List Float) (k : ℕ) (d : Links) (room : Room xs (suc k) d) wher
     stands : (j : ℕ) → j < m → standing (listsOf xs left right numbers) j ≡ placed xs j
     stands j h = ap (λ (n : ℕ). record { number = n; point = pointAt xs j }) (built.number-at m j (replicate m zero) h)
 
-    root-is : rootOf tree ≡ placed xs 0
-    root-is = ap rootOf (built.loaded xs m d room) ∙ stands 0 (omega arith)
+    root-is : rootIn tree ≡ placed xs 0
+    root-is = ap rootIn (built.loaded xs m d room) ∙ stands 0 (omega arith)
 
     walk-is : visiting tree p ≡ walked xs m left right p
     unfolding visiting
@@ -179,12 +179,12 @@ answer xs m d look q = locateOf look m xs (over (linked xs m .left) (d .left)) (
 -- FOUND IS what the unpruned walk of the bare tree names, from the clamped query
 pub names : (xs : List Float) (m : ℕ) (d : Links) → Room xs m d → (look : Lookup) → look .bounds ≡ boxOf xs m → (q : Point3)
     → answer xs m d look q ≡ At (walkNames (filledWith xs m d) (clampedBy look q) .number)
-unfolding locateOf locatedAs
+unfolding locateOf locatedBy
 names xs zero d room look eb q = let z = room .some in absurd (omega arith)
 names xs (suc k) d room look eb q =
     let p = clampedBy look q in
-    ap (λ (b : BoundingBox). locatedAs (placeOf xs (over (linked xs (suc k) .left) (d .left)) (over (linked xs (suc k) .right) (d .right)) (suc k) b p)) eb
-    ∙ ap locatedAs (built.found xs (suc k) d room (boxOf xs (suc k)) p .is) ∙ ap At (place-is xs k d room p)
+    ap (λ (b : BoundingBox). locatedBy (placeFound xs (over (linked xs (suc k) .left) (d .left)) (over (linked xs (suc k) .right) (d .right)) (suc k) b p)) eb
+    ∙ ap locatedBy (built.found xs (suc k) d room (boxOf xs (suc k)) p .is) ∙ ap At (place-is xs k d room p)
 
 named-as : (xs : List Float) (m : ℕ) (d : Links) → Room xs m d → (look : Lookup) → look .bounds ≡ boxOf xs m → (q : Point3)
     → (n : ℕ) → answer xs m d look q ≡ At n → walkNames (filledWith xs m d) (clampedBy look q) .number ≡ n
@@ -217,7 +217,7 @@ first-met xs (suc k) d room look eb q f fp n e =
     let w : walkNames (filledWith xs (suc k) d) p ≡ placed xs n = named-is xs k d room p f fp ∙ ap (placed xs) (named-as xs (suc k) d room look eb q n e) in
     subst (λ (l : List Numbered). FirstNearest p (placed xs n) (placed xs 0 ∷ l)) (walk-is xs k d room p)
     (subst (λ (r : Numbered). FirstNearest p (placed xs n) (r ∷ visiting (filledWith xs (suc k) d) p)) (root-is xs k d room p)
-    (subst (λ (x : Numbered). FirstNearest p x (rootOf (filledWith xs (suc k) d) ∷ visiting (filledWith xs (suc k) d) p)) w (nearest xs k d room p f fp .first-met)))
+    (subst (λ (x : Numbered). FirstNearest p x (rootIn (filledWith xs (suc k) d) ∷ visiting (filledWith xs (suc k) d) p)) w (nearest xs k d room p f fp .first-met)))
 
 -- THE WALK COMES TO EACH MEASUREMENT ONCE
 pub meets : (xs : List Float) (m : ℕ) (d : Links) → Room xs m d → (p : Point3)

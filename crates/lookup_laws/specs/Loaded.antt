@@ -10,7 +10,7 @@ use Rattle.kdtree.specs.Geometry.{boxAt}
 use Rattle.kdtree.specs.Tree.{subtree}
 use Rattle.kdtree.specs.Unpruned.{Item, order}
 use Rattle.kdtree.specs.Insert.{listsOf}
-use Rattle.walks.specs.Demand3.{Numbered, Bare, empty, fill}
+use Rattle.kdtree_laws.specs.Demand3.{Numbered, Bare, empty, fill}
 use Rattle.lookup.specs.declared.Located.{Located}
 use Rattle.lookup.specs.declared.Located.the-variants.{At}
 use Rattle.lookup.specs.Build.{Links}

@@ -11,13 +11,13 @@ use Rattle.mix.specs.declared.Share.{Share}
 use Rattle.mix.specs.declared.Points.{Points}
 
 -- one more product, rounded, added to the sum so far, rounded
-abbrev pub plus : Float → Float → Float → Float
-plus s w x = add binary32 s (mul binary32 x w)
+abbrev pub plusProduct : Float → Float → Float → Float
+plusProduct s w x = add binary32 s (mul binary32 x w)
 
 -- what f says of each point's measurement, times its weight, added up in order
 unfoldable pub sums : (ℕ → Float) → Float → List Share → Float
 sums f s [] = s
-sums f s (p ∷ ps) = sums f (plus s (p .weight) (f (p .number))) ps
+sums f s (p ∷ ps) = sums f (plusProduct s (p .weight) (f (p .number))) ps
 
 -- where the taps of measurement k for receiver e start
 unfoldable pub startOf : ℕ → ℕ → ℕ → ℕ → ℕ
@@ -67,13 +67,13 @@ pub record Placed (m : ℕ) (p : Points) : Type 0 where
 
 -- the sums that the loops make
 abbrev pub mix1 : List Float → ℕ → Float → ℕ → Float
-mix1 s a w i = plus zero32 w (getD s (a + i) nan)
+mix1 s a w i = plusProduct zero32 w (getD s (a + i) nan)
 
 abbrev pub mix2 : List Float → ℕ → ℕ → Float → Float → ℕ → Float
-mix2 s a b w x i = plus (mix1 s a w i) x (getD s (b + i) nan)
+mix2 s a b w x i = plusProduct (mix1 s a w i) x (getD s (b + i) nan)
 
 abbrev pub mix3 : List Float → ℕ → ℕ → ℕ → Float → Float → Float → ℕ → Float
-mix3 s a b c w x y i = plus (mix2 s a b w x i) y (getD s (c + i) nan)
+mix3 s a b c w x y i = plusProduct (mix2 s a b w x i) y (getD s (c + i) nan)
 
 abbrev pub mix4 : List Float → ℕ → ℕ → ℕ → ℕ → Float → Float → Float → Float → ℕ → Float
-mix4 s a b c d w x y z i = plus (mix3 s a b c w x y i) z (getD s (d + i) nan)
+mix4 s a b c d w x y z i = plusProduct (mix3 s a b c w x y i) z (getD s (d + i) nan)

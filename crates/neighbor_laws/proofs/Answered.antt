@@ -20,7 +20,7 @@ use Rattle.floats.proofs.Ops.{finite-number}
 use Rattle.floats.proofs.Preorder.{le-trans-f, not-lt→le}
 use Rattle.floats.proofs.Ceiling.{ceil-least}
 use Rattle.points.specs.declared.Point3.{Point3}
-use Rattle.limits.specs.Allowed.{nearest, within, angleStepOk}
+use Rattle.limits.specs.Allowed.{nearest32, within, angleStepOk}
 use Rattle.limits.proofs.Ends.{angle-step-finite}
 use Rattle.coords.specs.declared.Spherical.{Spherical}
 use Rattle.coords.specs.Coords.{full32}
@@ -70,14 +70,14 @@ module _ (m : ℕ) (e : ℤ) (some : 0 < m) where
 -- ---- the same as floats
 
 -- a whole number s
-whole-small : (w : Float) (s : ℕ) → HasValue w false s 1 → s ≤ 450 → Small (nearest 450 1) w
+whole-small : (w : Float) (s : ℕ) → HasValue w false s 1 → s ≤ 450 → Small (nearest32 450 1) w
 whole-small nan s v h = absurd v
 whole-small (inf t) s v h = absurd v
 whole-small (fin true k g) s v h = absurd (subst T (v .0) tt)
-whole-small (fin false k g) s v h = record { held = tt; most = le-of-values (fin false k g) (nearest 450 1) s 1 450 1 (omega arith) (omega arith) v (round-whole binary32 false 450 (omega arith)) (omega arith) }
+whole-small (fin false k g) s v h = record { held = tt; most = le-of-values (fin false k g) (nearest32 450 1) s 1 450 1 (omega arith) (omega arith) v (round-whole binary32 false 450 (omega arith)) (omega arith) }
 
 -- times a step m 2^e, where that is at most 90
-product-small : (m : ℕ) (e : ℤ) (w : Float) (s : ℕ) → HasValue w false s 1 → s * (m * up e) ≤ 90 * down e → Small (nearest 90 1) (mul binary32 (fin false m e) w)
+product-small : (m : ℕ) (e : ℤ) (w : Float) (s : ℕ) → HasValue w false s 1 → s * (m * up e) ≤ 90 * down e → Small (nearest32 90 1) (mul binary32 (fin false m e) w)
 unfolding mul round
 product-small m e nan s v h = absurd v
 product-small m e (inf t) s v h = absurd v
@@ -88,7 +88,7 @@ product-small m e (fin false k g) s v h =
     scaled : (n q s d g : ℕ) → q * 1 ≡ s * g → s * n ≤ 90 * d → n * q * 1 ≤ 45 * 2 * (d * g)
     scaled n q s d g v h = let k : s * n * g ≤ 90 * d * g = mul-le-mul-right g h in let z : q ≡ s * g = omega arith in rw z (omega arith)
 
-step-most : (m : ℕ) (e : ℤ) → T (le (fin false m e) (nearest 45 1)) → m * up e ≤ 45 * down e
+step-most : (m : ℕ) (e : ℤ) → T (le (fin false m e) (nearest32 45 1)) → m * up e ≤ 45 * down e
 unfolding round
 step-most m e h = omega (arith, le→cross (fin false m e) (fin false 45 (pos 0)) tt tt h)
 
@@ -97,7 +97,7 @@ unfolding ofInt
 whole s h = round-whole binary32 false s (omega arith)
 
 -- s steps forward, s steps back, and s that do not turn
-forth : (angle : Float) → angleStepOk angle ≡ true → (s : ℕ) → s ≤ angleCap angle → Small (nearest 90 1) (mul binary32 angle (ofInt binary32 (pos s)))
+forth : (angle : Float) → angleStepOk angle ≡ true → (s : ℕ) → s ≤ angleCap angle → Small (nearest32 90 1) (mul binary32 angle (ofInt binary32 (pos s)))
 forth nan ok s h = absurd (above nan ok)
 forth (inf t) ok s h = absurd (above (inf t) ok)
 forth (fin true m e) ok s h = absurd (above (fin true m e) ok)
@@ -105,22 +105,22 @@ forth (fin false m e) ok s h =
     let c = cap-most (fin false m e) ok in
     product-small m e (ofInt binary32 (pos s)) s (whole s (omega arith)) (reach-90 m e (ltb→lt 0 m (above (fin false m e) ok)) s (omega arith) h (step-most m e (high (fin false m e) ok)))
 
-back : (angle : Float) → angleStepOk angle ≡ true → (s : ℕ) → s ≤ angleCap angle → Small (nearest 90 1) (mul binary32 (neg angle) (ofInt binary32 (pos s)))
+back : (angle : Float) → angleStepOk angle ≡ true → (s : ℕ) → s ≤ angleCap angle → Small (nearest32 90 1) (mul binary32 (neg angle) (ofInt binary32 (pos s)))
 unfolding round
 back angle ok s h =
     let c = cap-most angle ok in
-    small-mul-neg binary32 (nearest 90 1) angle (ofInt binary32 (pos s)) tt (angle-step-finite angle ok) (whole-small (ofInt binary32 (pos s)) s (whole s (omega arith)) (omega arith) .held) (forth angle ok s h)
+    small-mul-neg binary32 (nearest32 90 1) angle (ofInt binary32 (pos s)) tt (angle-step-finite angle ok) (whole-small (ofInt binary32 (pos s)) s (whole s (omega arith)) (omega arith) .held) (forth angle ok s h)
 
-still : (s : ℕ) → s ≤ 450 → Small (nearest 90 1) (mul binary32 zero32 (ofInt binary32 (pos s)))
+still : (s : ℕ) → s ≤ 450 → Small (nearest32 90 1) (mul binary32 zero32 (ofInt binary32 (pos s)))
 unfolding mul round le lt eq
-still s h = small-mul binary32 zero32 (nearest 450 1) (nearest 90 1) zero32 (ofInt binary32 (pos s)) tt tt tt tt (record { held = tt; most = tt }) (whole-small (ofInt binary32 (pos s)) s (whole s h) h)
+still s h = small-mul binary32 zero32 (nearest32 450 1) (nearest32 90 1) zero32 (ofInt binary32 (pos s)) tt tt tt tt (record { held = tt; most = tt }) (whole-small (ofInt binary32 (pos s)) s (whole s h) h)
 
 -- ---- six directions
 
 -- s steps of it turn by at most 90 degrees, either way
 record Reaches (s : ℕ) (t : Spherical) : Type 0 where
-  azimuth : Small (nearest 90 1) (mul binary32 (t .azimuth) (ofInt binary32 (pos s)))
-  elevation : Small (nearest 90 1) (mul binary32 (t .elevation) (ofInt binary32 (pos s)))
+  azimuth : Small (nearest32 90 1) (mul binary32 (t .azimuth) (ofInt binary32 (pos s)))
+  elevation : Small (nearest32 90 1) (mul binary32 (t .elevation) (ofInt binary32 (pos s)))
 
 pick : (s : ℕ) (b : Bool) (x y : Spherical) → (T b → Reaches s x) → Reaches s y → Reaches s (cond b x y)
 pick s true x y f r = f tt
@@ -151,15 +151,15 @@ module _ (angle radius : Float) (ok : angleStepOk angle ≡ true) where
 
 -- ---- where a step looks
 
-turned-small : (v t : Float) → Small full32 v → Small (nearest 90 1) t → Small (nearest 450 1) (add binary32 v t)
+turned-small : (v t : Float) → Small full32 v → Small (nearest32 90 1) t → Small (nearest32 450 1) (add binary32 v t)
 unfolding round add ofBits le lt eq
-turned-small v t h k = small-add binary32 full32 (nearest 90 1) (nearest 450 1) v t tt tt tt tt h k
+turned-small v t h k = small-add binary32 full32 (nearest32 90 1) (nearest32 450 1) v t tt tt tt tt h k
 
-raised-small : (v t : Float) → Small (nearest 180 1) v → Small (nearest 90 1) t → Small (nearest 270 1) (add binary32 v t)
+raised-small : (v t : Float) → Small (nearest32 180 1) v → Small (nearest32 90 1) t → Small (nearest32 270 1) (add binary32 v t)
 unfolding round add le lt eq
-raised-small v t h k = small-add binary32 (nearest 180 1) (nearest 90 1) (nearest 270 1) v t tt tt tt tt h k
+raised-small v t h k = small-add binary32 (nearest32 180 1) (nearest32 90 1) (nearest32 270 1) v t tt tt tt tt h k
 
-tilted-small : (v : Float) → T (finite v) → Small (nearest 90 1) (tilted v)
+tilted-small : (v : Float) → T (finite v) → Small (nearest32 90 1) (tilted v)
 unfolding tilted clampOf
 tilted-small v f = go (lt v lo) (lt hi v) refl refl
   where
@@ -169,35 +169,35 @@ tilted-small v f = go (lt v lo) (lt hi v) refl refl
     hi : Float
     hi = ofBits binary32 0x42b40000
 
-    go : (a b : Bool) → lt v lo ≡ a → lt hi v ≡ b → Small (nearest 90 1) (cond a lo (cond b hi v))
+    go : (a b : Bool) → lt v lo ≡ a → lt hi v ≡ b → Small (nearest32 90 1) (cond a lo (cond b hi v))
     go true b p q = unfold round ofBits le lt eq in record { held = tt; most = tt }
     go false true p q = unfold round ofBits le lt eq in record { held = tt; most = tt }
-    go false false p q = between-small (nearest 90 1) v f
+    go false false p q = between-small (nearest32 90 1) v f
         (unfold round neg ofBits isNan in not-lt→le v lo (finite-number v f) tt (of-left p))
         (unfold round ofBits isNan in not-lt→le hi v tt (finite-number v f) (of-left q))
 
-wider-450 : (v : Float) → Small (nearest 450 1) v → Small (nearest 720 1) v
+wider-450 : (v : Float) → Small (nearest32 450 1) v → Small (nearest32 720 1) v
 unfolding round le lt eq
-wider-450 v h = small-wider (nearest 450 1) (nearest 720 1) v tt h
+wider-450 v h = small-wider (nearest32 450 1) (nearest32 720 1) v tt h
 
-wider-90 : (v : Float) → Small (nearest 90 1) v → Small (nearest 720 1) v
+wider-90 : (v : Float) → Small (nearest32 90 1) v → Small (nearest32 720 1) v
 unfolding round le lt eq
-wider-90 v h = small-wider (nearest 90 1) (nearest 720 1) v tt h
+wider-90 v h = small-wider (nearest32 90 1) (nearest32 720 1) v tt h
 
-within-450 : (v : Float) → Small (nearest 450 1) v → within 450 1 v ≡ true
+within-450 : (v : Float) → Small (nearest32 450 1) v → within 450 1 v ≡ true
 unfolding round neg le lt eq
 within-450 v h = small-within 450 1 v tt tt h
 
-within-90 : (v : Float) → Small (nearest 90 1) v → within 90 1 v ≡ true
+within-90 : (v : Float) → Small (nearest32 90 1) v → within 90 1 v ≡ true
 unfolding round neg le lt eq
 within-90 v h = small-within 90 1 v tt tt h
 
 module _ (angle radius : Float) (ok : angleStepOk angle ≡ true) (p : Point3) where
-  looks-azimuth : (d s : ℕ) → s ≤ capOf d angle → Small (nearest 450 1) (looks angle radius p d s .azimuth)
+  looks-azimuth : (d s : ℕ) → s ≤ capOf d angle → Small (nearest32 450 1) (looks angle radius p d s .azimuth)
   unfolding moved after
   looks-azimuth d s h = turned-small _ _ (azimuth-small p) (reaches angle radius ok d s h .azimuth)
 
-  looks-elevation : (d s : ℕ) → s ≤ capOf d angle → Small (nearest 90 1) (looks angle radius p d s .elevation)
+  looks-elevation : (d s : ℕ) → s ≤ capOf d angle → Small (nearest32 90 1) (looks angle radius p d s .elevation)
   unfolding moved after
   looks-elevation d s h = tilted-small _ (raised-small _ _ (elevation-small p) (reaches angle radius ok d s h .elevation) .held)
 

@@ -11,7 +11,7 @@ use Rattle.floats.specs.Floats.{ceilOf}
 use Rattle.floats.proofs.Preorder.{le-trans-f, le-lt-trans}
 use Rattle.floats.proofs.Ratio.{div-mono}
 use Rattle.floats.proofs.Ceiling.{ceil-least, ceil-enough}
-use Rattle.limits.specs.Allowed.{nearest, angleStepOk}
+use Rattle.limits.specs.Allowed.{nearest32, angleStepOk}
 use Rattle.limits.proofs.Ends.{between-low, between-high}
 use Rattle.neighbors.specs.Neighbors.{angleCap}
 
@@ -20,25 +20,25 @@ abbrev pub turn45 : Float
 turn45 = fin false 45 (pos 0)
 
 module _ (angle : Float) (ok : angleStepOk angle ≡ true) where
-  low : T (le (nearest 1 10) angle)
+  low : T (le (nearest32 1 10) angle)
   unfolding angleStepOk
-  low = between-low (nearest 1 10) (nearest 45 1) angle ok
+  low = between-low (nearest32 1 10) (nearest32 45 1) angle ok
 
-  pub high : T (le angle (nearest 45 1))
+  pub high : T (le angle (nearest32 45 1))
   unfolding angleStepOk
-  high = between-high (nearest 1 10) (nearest 45 1) angle ok
+  high = between-high (nearest32 1 10) (nearest32 45 1) angle ok
 
   pub above : T (positive angle)
   unfolding round
-  above = between (nearest 1 10) angle (nearest 45 1) tt tt low high
+  above = between (nearest32 1 10) angle (nearest32 45 1) tt tt low high
 
   at-most : T (le (div binary32 turn45 angle) (fin false 450 (pos 0)))
   unfolding round div le lt
-  at-most = le-trans-f (div binary32 turn45 angle) (div binary32 turn45 (nearest 1 10)) (fin false 450 (pos 0)) (div-mono binary32 turn45 turn45 angle (nearest 1 10) tt tt above tt tt low) tt
+  at-most = le-trans-f (div binary32 turn45 angle) (div binary32 turn45 (nearest32 1 10)) (fin false 450 (pos 0)) (div-mono binary32 turn45 turn45 angle (nearest32 1 10) tt tt above tt tt low) tt
 
   at-least : T (le (fin false 1 (pos 0)) (div binary32 turn45 angle))
   unfolding round div le lt
-  at-least = le-trans-f (fin false 1 (pos 0)) (div binary32 turn45 (nearest 45 1)) (div binary32 turn45 angle) tt (div-mono binary32 turn45 turn45 (nearest 45 1) angle tt tt tt above tt high)
+  at-least = le-trans-f (fin false 1 (pos 0)) (div binary32 turn45 (nearest32 45 1)) (div binary32 turn45 angle) tt (div-mono binary32 turn45 turn45 (nearest32 45 1) angle tt tt tt above tt high)
 
   pub cap-most : angleCap angle ≤ 450
   unfolding angleCap ofBits

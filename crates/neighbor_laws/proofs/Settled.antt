@@ -21,7 +21,7 @@ use Rattle.lookup_laws.specs.Loaded.{Room, Below}
 use Rattle.lookup_laws.proofs.Loaded.{never-refused}
 use Rattle.neighbors.specs.declared.Reached.{Reached}
 use Rattle.neighbors.specs.declared.Reached.the-variants.{At, Absent, Refused}
-use Rattle.neighbors.specs.Neighbors.{moved, leaves, stepOf, capOf, unlessOwn, going, directionOf, neighborOf, entryOf, markOf, tabledAs, tableOf}
+use Rattle.neighbors.specs.Neighbors.{moved, leaves, stepOf, capOf, unlessOwn, going, directionOf, neighborOf, tableEntry, markOf, tabledAs, tableOf}
 use Rattle.neighbors.proofs.Table.{Writes, all-answered}
 use Rattle.neighbor_laws.specs.Settled.{Settles, Entry}
 
@@ -74,11 +74,11 @@ module _ (xs : List Float) (m : ℕ) (d : Links) (room : Room xs m d) (look : Lo
 
   module _ (angle radius : Float) where
     abbrev entry : ℕ → Reached
-    entry k = entryOf look m xs left right angle radius k
+    entry k = tableEntry look m xs left right angle radius k
 
     -- EACH ENTRY is absent, or names a measurement other than its own
     pub settled : (k : ℕ) → Settles m (k / 6) (entry k)
-    unfolding entryOf neighborOf
+    unfolding tableEntry neighborOf
     settled k = direction-settles (k / 6) (sphericalOf (pointAt xs (k / 6))) (stepOf (k % 6) angle radius) (capOf (k % 6) angle)
 
     pub entries : (k : ℕ) → Entry m (k / 6) (markOf (entry k))

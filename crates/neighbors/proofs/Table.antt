@@ -16,7 +16,7 @@ use Rattle.limits.specs.declared.Verdict.the-variants as verdict
 use Rattle.lookup.specs.declared.Lookup.{Lookup}
 use Rattle.neighbors.specs.declared.Reached.{Reached}
 use Rattle.neighbors.specs.declared.Reached.the-variants.{At, Absent, Refused}
-use Rattle.neighbors.specs.Neighbors.{stepOf, capOf, directionOf, neighborOf, entryOf, absentMark, Tabled, tabledAs, byEntry, writing}
+use Rattle.neighbors.specs.Neighbors.{stepOf, capOf, directionOf, neighborOf, tableEntry, absentMark, Tabled, tabledAs, byEntry, writing}
 
 -- what is written of an entry: nothing of one that refuses
 abbrev pub Writes : Reached → ℕ → Type 0
@@ -106,8 +106,8 @@ module _ (entry : ℕ → Reached) (number : ℕ → ℕ) (d : List ℕ) where
 
 pub entry-is : (look : Lookup) (m : ℕ) (xs : List Float) (left right : List ℕ) (angle radius : Float) (own d : ℕ) → d < 6 → (p : Point3) (from step : Spherical) (cap : ℕ)
     → p ≡ pointAt xs own → from ≡ sphericalOf p → step ≡ stepOf d angle radius → cap ≡ capOf d angle → (r : Reached) → r ≡ directionOf look m xs left right own from step cap
-    → r ≡ entryOf look m xs left right angle radius (6 * own + d)
-unfolding entryOf neighborOf
+    → r ≡ tableEntry look m xs left right angle radius (6 * own + d)
+unfolding tableEntry neighborOf
 entry-is look m xs left right angle radius own d h p from step cap ep ef es ec r er =
     let eo : (6 * own + d) / 6 ≡ own = omega arith in
     let ed : (6 * own + d) % 6 ≡ d = omega arith in

@@ -6,13 +6,13 @@ use Prim.Native.Nat.{ℕ}
 use lib.Ieee.{Float}
 use Rattle.points.specs.declared.Point3.{Point3}
 use Rattle.points.specs.Points.{pointAt}
-use Rattle.kdtree.specs.Nearest.{placeOf}
+use Rattle.kdtree.specs.Nearest.{placeFound}
 use Rattle.clearing.specs.declared.Clearing.{Clearing}
-use Rattle.clearing.specs.Clearing.{aloneIn, nearestIn}
+use Rattle.clearing.specs.Clearing.{aloneIn, nearestWithin}
 use Rattle.lookup.specs.declared.Lookup.{Lookup}
 use Rattle.lookup.specs.declared.Located.the-variants.{At}
 use Rattle.lookup.specs.Build.{Links, linksOf, linked, overBoth, boxOf}
-use Rattle.lookup.specs.Lookup.{locatedAs}
+use Rattle.lookup.specs.Lookup.{locatedBy}
 use Rattle.lookup_laws.specs.Loaded.{Room}
 
 -- links that were built over lists that were lent, and a lookup with their box
@@ -26,5 +26,5 @@ pub record BuiltBy (look : Lookup) (m : ℕ) (xs : List Float) (left right : Lis
 abbrev pub Surrounds : Lookup → ℕ → List Float → List ℕ → List ℕ → ℕ → Clearing → Type 0
 Surrounds look m xs left right own c =
     (p : Point3)
-    → (let s = nearestIn xs m p own c in
-    s .tied ≡ false → aloneIn (c .faces) (s .place) (pointAt xs (s .place)) (pointAt xs 0) p ≡ true → locatedAs (placeOf xs left right m (look .bounds) p) ≡ At (s .place))
+    → (let s = nearestWithin xs m p own c in
+    s .tied ≡ false → aloneIn (c .faces) (s .place) (pointAt xs (s .place)) (pointAt xs 0) p ≡ true → locatedBy (placeFound xs left right m (look .bounds) p) ≡ At (s .place))

@@ -93,8 +93,8 @@ module _ (look : Lookup) (m : ℕ) (xs : List Float) (left right : List ℕ) whe
   neighborOf angle radius own d = directionOf own (sphericalOf (pointAt xs own)) (stepOf d angle radius) (capOf d angle)
 
   -- the one at a place of the table
-  unfoldable pub entryOf : Float → Float → ℕ → Reached
-  entryOf angle radius k = neighborOf angle radius (k / 6) (k % 6)
+  unfoldable pub tableEntry : Float → Float → ℕ → Reached
+  tableEntry angle radius k = neighborOf angle radius (k / 6) (k % 6)
 
 -- ---- the table
 
@@ -130,8 +130,8 @@ module _ (entry : ℕ → Reached) where
 
 -- the six entries of a measurement
 unfoldable pub rowOf : Lookup → ℕ → List Float → List ℕ → List ℕ → Float → Float → ℕ → List ℕ → Tabled
-rowOf look m xs left right angle radius own d = writing (entryOf look m xs left right angle radius) 6 (6 * own) d
+rowOf look m xs left right angle radius own d = writing (tableEntry look m xs left right angle radius) 6 (6 * own) d
 
 -- all 6m of them
 unfoldable pub tableOf : Lookup → ℕ → List Float → List ℕ → List ℕ → Float → Float → List ℕ → Tabled
-tableOf look m xs left right angle radius d = writing (entryOf look m xs left right angle radius) (6 * m) 0 d
+tableOf look m xs left right angle radius d = writing (tableEntry look m xs left right angle radius) (6 * m) 0 d

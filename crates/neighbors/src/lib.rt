@@ -67,7 +67,7 @@ fn has_left(look: Lookup, step: f32, radius: f32) -> bool
 }
 
 // The sine and cosine of the angle that a step came to; one that stays fixed is as it was at the step before.
-fn turned(before: Turn, step: f32, i: u32, degrees: f32) -> Turn
+fn turn_at(before: Turn, step: f32, i: u32, degrees: f32) -> Turn
     ensures { λ r. ⌜ r ≡ cond (ltb 0 i && eq step zero32) before (turnOf degrees) ⌝ }
 {
     if (0 < i) & (step == 0.0) {
@@ -139,8 +139,8 @@ fn search_direction(
         if has_left(look, step.radius, there.radius) {
             return Reached::Absent;
         }
-        phi = turned(phi, step.azimuth, i, there.azimuth);
-        theta = turned(theta, step.elevation, i, there.elevation);
+        phi = turn_at(phi, step.azimuth, i, there.azimuth);
+        theta = turn_at(theta, step.elevation, i, there.elevation);
         let q = coords::along(phi, theta, there.radius);
         let found = locate_around(look, m, cartesian, left, right, own, around, q);
         let Located::At(n) = found else {
@@ -200,11 +200,11 @@ fn find_neighbors(
     radius_step: f32,
     own: usize,
     around: Clearing,
-    neighbors: &mut [u16],
+    neighbours: &mut [u16],
 ) -> Verdict
-    requires { ⌜ (own < m) × (3 * m ≤ length (now cartesian)) × (m ≤ length (now left)) × (m ≤ length (now right)) × (m ≤ 16384) × (6 * m ≤ length (now neighbors))
+    requires { ⌜ (own < m) × (3 * m ≤ length (now cartesian)) × (m ≤ length (now left)) × (m ≤ length (now right)) × (m ≤ 16384) × (6 * m ≤ length (now neighbours))
         × Surrounds look m (now cartesian) (now left) (now right) own around ⌝ }
-    ensures { λ r. ⌜ tabledAs r (now (neighbors .exit)) ≡ rowOf look m (now (cartesian .entry)) (now (left .entry)) (now (right .entry)) «angle_step» «radius_step» own (now (neighbors .entry)) ⌝ }
+    ensures { λ r. ⌜ tabledAs r (now (neighbours .exit)) ≡ rowOf look m (now (cartesian .entry)) (now (left .entry)) (now (right .entry)) «angle_step» «radius_step» own (now (neighbours .entry)) ⌝ }
 {
     let from = coords::cartesian_to_spherical(points::point_at(cartesian, own));
     let number = own as u16;
@@ -229,7 +229,7 @@ fn find_neighbors(
             Reached::Absent => 65535,
             Reached::Refused(reason, place) => return Verdict::Refused(reason, place),
         };
-        neighbors[6 * own + d] = entry;
+        neighbours[6 * own + d] = entry;
         d += 1;
     }
     Verdict::Fine
@@ -244,11 +244,11 @@ pub fn fill_neighbors(
     right: &[u16],
     angle_step: f32,
     radius_step: f32,
-    neighbors: &mut [u16],
+    neighbours: &mut [u16],
 ) -> Verdict
-    requires { ⌜ (3 * m ≤ length (now cartesian)) × (m ≤ length (now left)) × (m ≤ length (now right)) × (m ≤ 16384) × (6 * m ≤ length (now neighbors))
+    requires { ⌜ (3 * m ≤ length (now cartesian)) × (m ≤ length (now left)) × (m ≤ length (now right)) × (m ≤ 16384) × (6 * m ≤ length (now neighbours))
         × BuiltBy look m (now cartesian) (now left) (now right) ⌝ }
-    ensures { λ r. ⌜ tabledAs r (now (neighbors .exit)) ≡ tableOf look m (now (cartesian .entry)) (now (left .entry)) (now (right .entry)) «angle_step» «radius_step» (now (neighbors .entry)) ⌝ }
+    ensures { λ r. ⌜ tabledAs r (now (neighbours .exit)) ≡ tableOf look m (now (cartesian .entry)) (now (left .entry)) (now (right .entry)) «angle_step» «radius_step» (now (neighbours .entry)) ⌝ }
 {
     let arc = look.radius_max * angle_step * 0.017453292;
     let mut reach = look.radius_max;
@@ -266,7 +266,7 @@ pub fn fill_neighbors(
             radius_step,
             i,
             around,
-            neighbors,
+            neighbours,
         );
         let Verdict::Fine = told else {
             return told;

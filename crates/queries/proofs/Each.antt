@@ -4,20 +4,20 @@ use Prim.Native.Nat.{ℕ}
 use mathlib.Core.Path.{_≡_, refl, sym, ap, _∙_}
 use mathlib.Core.List.{List, [], _∷_, _++_, append-assoc, append-nil}
 use Rattle.points.specs.declared.Point3.{Point3}
-use Rattle.lines.specs.Machine.{choose, reads}
-use Rattle.keys.specs.declared.Place.{Place}
-use Rattle.keys.specs.declared.Place.the-variants as place
-use Rattle.keys.specs.Words.{bytes}
-use Rattle.keys.specs.Keys.{pointBehind}
+use Rattle.text.specs.Machine.{choose, reads}
+use Rattle.text.specs.declared.Place.{Place}
+use Rattle.text.specs.declared.Place.the-variants as place
+use Rattle.text.specs.Words.{bytes}
+use Rattle.text.specs.Keys.{pointBehind}
 use Rattle.settext.specs.declared.State.{State}
-use Rattle.settext.specs.State.{numberOf, counted, badOf}
-use Rattle.settext.specs.Lines.{Lists, After, asked, queryLine}
+use Rattle.settext.specs.State.{lineNumber, counted, badOf}
+use Rattle.settext.specs.Lines.{TextLists, After, asked, queryLine}
 use Rattle.lookup.specs.declared.Lookup.{Lookup}
 use Rattle.loads.specs.Load.{Work}
 use Rattle.blocks.specs.Blocks.{formError}
-use Rattle.answers.specs.Answers.{nearestOf, filteredOf, answerOf}
+use Rattle.answers.specs.Answers.{nearestNumber, filteredOf, answerBlock}
 use Rattle.queries.specs.declared.Phase.the-variants.{Ready, Over}
-use Rattle.queries.specs.Program.{session, Turn, turn, stepTurn, afterTurn, lineTurn, known, ended, printing, onLine}
+use Rattle.queries.specs.Program.{session, Turn, turnAs, stepTurn, afterTurn, lineTurn, knownAs, ended, printing, onLine}
 use Rattle.queries.proofs.Order.{InOrder, only-queries, in-order}
 
 -- lines, each of which asks a query
@@ -25,10 +25,10 @@ pub data Ask : List (List ℕ) → List Point3 → Type 0 where
   none : Ask [] []
   one : {l : List ℕ} {q : Point3} {ls : List (List ℕ)} {qs : List Point3} → pointBehind (bytes "query=") l ≡ place.At q → Ask ls qs → Ask (l ∷ ls) (q ∷ qs)
 
-module _ (look : Lookup) (d : Lists) (w : Work) where
+module _ (look : Lookup) (d : TextLists) (w : Work) where
   -- the block of a query at the set
   abbrev pub block : State → Point3 → List ℕ
-  block s q = answerOf s look w (d .responses) (d .delays) q
+  block s q = answerBlock s look w (d .responses) (d .delays) q
 
   unfoldable pub blocks : State → List Point3 → List ℕ
   blocks s [] = []
@@ -36,7 +36,7 @@ module _ (look : Lookup) (d : Lists) (w : Work) where
 
   -- how many lines were read does not show in a block
   pub alone : (s : State) (q : Point3) → block (counted s) q ≡ block s q
-  unfolding answerOf nearestOf filteredOf
+  unfolding answerBlock nearestNumber filteredOf
   alone s q = refl
 
   same-blocks : (s : State) (qs : List Point3) → blocks (counted s) qs ≡ blocks s qs
@@ -50,16 +50,16 @@ module _ (look : Lookup) (d : Lists) (w : Work) where
     by-place = ap (λ (a : After). afterTurn (Ready s look) a w) (only-queries s l d (here .0))
 
     -- a query prints its block, and the set stays
-    pub a-query : (q : Point3) → pointBehind (bytes "query=") l ≡ place.At q → lineTurn (session (Ready s look) d w) l ≡ turn (Ready (counted s) look) d w (block s q)
-    a-query q e = by-place ∙ ap (λ (p : Place). stepTurn (Ready s look) (asked s p) d w) e ∙ ap (turn (Ready (counted s) look) d w) (alone s q)
+    pub a-query : (q : Point3) → pointBehind (bytes "query=") l ≡ place.At q → lineTurn (session (Ready s look) d w) l ≡ turnAs (Ready (counted s) look) d w (block s q)
+    a-query q e = by-place ∙ ap (λ (p : Place). stepTurn (Ready s look) (asked s p) d w) e ∙ ap (turnAs (Ready (counted s) look) d w) (alone s q)
 
-    pub no-query : pointBehind (bytes "query=") l ≡ place.Nowhere → lineTurn (session (Ready s look) d w) l ≡ turn Over d w (formError (numberOf s))
+    pub no-query : pointBehind (bytes "query=") l ≡ place.Nowhere → lineTurn (session (Ready s look) d w) l ≡ turnAs Over d w (formError (lineNumber s))
     unfolding badOf
     no-query e = by-place ∙ ap (λ (p : Place). stepTurn (Ready s look) (asked s p) d w) e
 
   -- One block for each query, in their order
   pub each-block : {ls : List (List ℕ)} {qs : List Point3} (s : State) (p : List ℕ) → InOrder (Ready s look) → Ask ls qs
-      → reads ended onLine (known (session (Ready s look) d w) p) ls .printed ≡ p ++ blocks s qs
+      → reads ended onLine (knownAs (session (Ready s look) d w) p) ls .printed ≡ p ++ blocks s qs
   unfolding reads choose onLine blocks
   each-block s p h none = sym (append-nil p)
   each-block s p h (one {l} {q} {ls} {qs} e m) =

@@ -3,16 +3,16 @@ use Prim.Native.Nat.{ℕ}
 use Prim.Native.String.{String}
 use mathlib.Core.Path.{_≡_, refl}
 use mathlib.Core.List.{List, [], _∷_, _++_}
-use Rattle.lines.specs.Machine.{choose, splitFrom, reads}
-use Rattle.text.specs.Number.{begins, countOf, hexOf, numFrom, atMost, digitOf, pick}
+use Rattle.text.specs.Machine.{choose, splitFrom, reads}
+use Rattle.text.specs.Number.{begins, countOf, hexOf, numFrom, atMost, digitOf, pickNum}
 use Rattle.text.specs.Print.{decimalText, decimalIn}
-use Rattle.keys.specs.Words.{bytes}
-use Rattle.keys.specs.Keys.{exactlyOf, behind}
-use Rattle.settext.specs.State.{numberOf, totalOf, wentOf, badOf}
+use Rattle.text.specs.Words.{bytes}
+use Rattle.text.specs.Keys.{exactlyOf, numBehind}
+use Rattle.settext.specs.State.{lineNumber, lineCount, wentOf, badOf}
 use Rattle.settext.specs.Lines.{kindOf, product, keyLine, formLine, kindLine, mLine, rLine, nLine, rateLine, astepLine, rstepLine, delaysLine, lineOf, endOf}
 use Rattle.limits.specs.Allowed.{kindOk, sizesOk}
 use Rattle.limits.specs.Refusals.{verdictOf}
-use Rattle.limits.specs.Refusals.{pick as pickVerdict}
+use Rattle.limits.specs.Refusals.{pickVerdict}
 use Rattle.loads.specs.Load.{loadBy, loadOf}
 use Rattle.blocks.specs.Blocks.{wordLine, countLine, refusedText, formError}
 use Rattle.answers.specs.Answers.{setOf}
@@ -25,26 +25,26 @@ lines (l ∷ ls) = bytes l ++ (10 ∷ lines ls)
 
 -- nothing at all: the first line is missing
 pub empty : outputOf [] ≡ lines ("form error at line 1" ∷ [])
-unfolding outputOf outputFrom splitFrom reads endOf numberOf totalOf formError countLine decimalText decimalIn bytes
+unfolding outputOf outputFrom splitFrom reads endOf lineNumber lineCount formError countLine decimalText decimalIn bytes
 empty = refl
 
 -- a line that is not ended is malformed
 pub unfinished : outputOf (bytes "form=1") ≡ lines ("form error at line 1" ∷ [])
-unfolding outputOf outputFrom splitFrom choose reads endOf numberOf totalOf formError countLine decimalText decimalIn bytes
+unfolding outputOf outputFrom splitFrom choose reads endOf lineNumber lineCount formError countLine decimalText decimalIn bytes
 unfinished = refl
 
 -- a carriage return is no part of a line's end
 pub carriage-return : outputOf (bytes "form=1" ++ (13 ∷ 10 ∷ [])) ≡ lines ("form error at line 1" ∷ [])
-unfolding outputOf outputFrom splitFrom choose reads onLine lineTurn lineOf keyLine formLine exactlyOf begins badOf endOf numberOf totalOf formError countLine decimalText decimalIn bytes
+unfolding outputOf outputFrom splitFrom choose reads onLine lineTurn lineOf keyLine formLine exactlyOf begins badOf endOf lineNumber lineCount formError countLine decimalText decimalIn bytes
 carriage-return = refl
 
 -- the second line is missing
 pub cut-short : outputOf (lines ("form=1" ∷ [])) ≡ lines ("form error at line 2" ∷ [])
-unfolding outputOf outputFrom splitFrom choose reads onLine lineTurn lineOf keyLine formLine exactlyOf begins wentOf endOf numberOf totalOf formError countLine decimalText decimalIn bytes
+unfolding outputOf outputFrom splitFrom choose reads onLine lineTurn lineOf keyLine formLine exactlyOf begins wentOf endOf lineNumber lineCount formError countLine decimalText decimalIn bytes
 cut-short = refl
 
 -- no measurement: the set is well formed, its load is refused, and what comes after is not read
 pub no-measurement : outputOf (lines ("form=1" ∷ "kind=cartesian" ∷ "m=0" ∷ "r=2" ∷ "n=1" ∷ "rate=473b8000" ∷ "astep=3f000000" ∷ "rstep=3c23d70a" ∷ "delays=0" ∷ "anything" ∷ []))
     ≡ lines ("answer=refused" ∷ "reason=2" ∷ "place=0" ∷ [])
-unfolding outputOf outputFrom splitFrom choose reads onLine lineTurn lineOf keyLine formLine kindLine kindOf mLine rLine nLine product rateLine astepLine rstepLine delaysLine exactlyOf begins behind countOf hexOf numFrom atMost digitOf pick wentOf badOf endOf numberOf totalOf setOf loadOf loadBy verdictOf pickVerdict kindOk sizesOk wordLine countLine refusedText decimalText decimalIn bytes
+unfolding outputOf outputFrom splitFrom choose reads onLine lineTurn lineOf keyLine formLine kindLine kindOf mLine rLine nLine product rateLine astepLine rstepLine delaysLine exactlyOf begins numBehind countOf hexOf numFrom atMost digitOf pickNum wentOf badOf endOf lineNumber lineCount setOf loadOf loadBy verdictOf pickVerdict kindOk sizesOk wordLine countLine refusedText decimalText decimalIn bytes
 no-measurement = refl

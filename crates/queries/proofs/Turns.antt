@@ -9,14 +9,14 @@ use lib.ListN.{length, take, drop, drop-of-length-le, length-append}
 use lib.Ieee.{Float}
 use Rattle.lists.specs.Over.{over}
 use Rattle.lists.proofs.Laws.{over-nil, take-over}
-use Rattle.lines.specs.declared.Cut.{Cut}
-use Rattle.lines.specs.declared.Cut.the-variants.{Line, More}
-use Rattle.lines.specs.Lines.{Part, Within, cut, partOf}
-use Rattle.lines.specs.Machine.{At, choose}
+use Rattle.text.specs.declared.Cut.{Cut}
+use Rattle.text.specs.declared.Cut.the-variants.{Line, More}
+use Rattle.text.specs.Lines.{Part, CutWithin, cut, cutPart}
+use Rattle.text.specs.Machine.{At, choose}
 use Rattle.settext.specs.declared.State.{State}
 use Rattle.settext.specs.declared.Step.{Step}
 use Rattle.settext.specs.declared.Step.the-variants.{Next, Complete, Query, Malformed}
-use Rattle.settext.specs.Lines.{Lists, After, lineOf}
+use Rattle.settext.specs.Lines.{TextLists, After, lineOf}
 use Rattle.setread.proofs.Reached.{line}
 use Rattle.points.specs.declared.Point3.{Point3}
 use Rattle.lookup.specs.declared.Lookup.{Lookup}
@@ -27,9 +27,9 @@ use Rattle.blocks.specs.Blocks.{refusedText, formError}
 use Rattle.answers.specs.Answers.{setOf}
 use Rattle.queries.specs.declared.Phase.{Phase}
 use Rattle.queries.specs.declared.Phase.the-variants.{Ready, Over}
-use Rattle.queries.specs.Program.{Session, session, Turn, turn, stateIn, isOver, moved, loadTurn, byLoad, blockIn, stepTurn, afterTurn, lineTurn, Ears, earsOf, stepEars, afterEars, lineEars}
+use Rattle.queries.specs.Program.{Session, session, Turn, turnAs, stateIn, isOver, phaseAfter, loadTurn, byLoad, blockIn, stepTurn, afterTurn, lineTurn, Ears, earsOf, stepEars, afterEars, lineEars}
 use Rattle.queries.specs.Sound.{Few, SoundPhase}
-use Rattle.queries.specs.Machine.{between, Advance, advanceAs, lineAdvance, partAdvance, advanceOf, partEars, advanceEars, Front, TurnSays}
+use Rattle.queries.specs.Machine.{betweenBytes, Advance, advanceAs, lineAdvance, partAdvance, advanceOf, partEars, advanceEars, Front, TurnSays}
 
 -- once over, nothing is read and nothing printed
 pub silent : (room : ℕ) (a : At Session) (s : List ℕ) → isOver (a .known .phase) ≡ true → advanceOf room a s ≡ advanceAs a [] []
@@ -55,35 +55,35 @@ pub all-over : (room : ℕ) (a : At Session) (s chunk : List ℕ) → isOver (a 
 all-over room a s chunk e = ap (λ (l : List ℕ). advanceAs a l []) (none-left chunk) ∙ sym (silent room a s e)
 
 module _ (buf buf′ chunk : List ℕ) (k : Session) (from used : ℕ) (r : Cut) (going : isOver (k .phase) ≡ false)
-    (said : partOf r buf′ chunk ≡ cut (take (length buf)) (take used buf) (drop from chunk)) where
-  by-cut : partAdvance k (partOf r buf′ chunk) ≡ advanceOf (length buf) (between k (take used buf)) (drop from chunk)
-  by-cut = ap (partAdvance k) said ∙ sym (goes-by (length buf) (between k (take used buf)) (drop from chunk) going)
+    (said : cutPart r buf′ chunk ≡ cut (take (length buf)) (take used buf) (drop from chunk)) where
+  by-cut : partAdvance k (cutPart r buf′ chunk) ≡ advanceOf (length buf) (betweenBytes k (take used buf)) (drop from chunk)
+  by-cut = ap (partAdvance k) said ∙ sym (goes-by (length buf) (betweenBytes k (take used buf)) (drop from chunk) going)
 
-  ears-cut : (e : Ears) → partEars k (partOf r buf′ chunk) e ≡ advanceEars (length buf) (between k (take used buf)) (drop from chunk) e
-  ears-cut e = ap (λ (p : Part). partEars k p e) said ∙ ears-by (length buf) (between k (take used buf)) (drop from chunk) e going
+  ears-cut : (e : Ears) → partEars k (cutPart r buf′ chunk) e ≡ advanceEars (length buf) (betweenBytes k (take used buf)) (drop from chunk) e
+  ears-cut e = ap (λ (p : Part). partEars k p e) said ∙ ears-by (length buf) (betweenBytes k (take used buf)) (drop from chunk) e going
 
   module _ (next n : ℕ) (e : r ≡ Line next n) where
-    pub a-line : lineAdvance (lineTurn k (take n buf′)) (drop next chunk) ≡ advanceOf (length buf) (between k (take used buf)) (drop from chunk)
-    a-line = ap (λ (r : Cut). partAdvance k (partOf r buf′ chunk)) (sym e) ∙ by-cut
+    pub a-line : lineAdvance (lineTurn k (take n buf′)) (drop next chunk) ≡ advanceOf (length buf) (betweenBytes k (take used buf)) (drop from chunk)
+    a-line = ap (λ (r : Cut). partAdvance k (cutPart r buf′ chunk)) (sym e) ∙ by-cut
 
-    pub line-ears : (h : Ears) → lineEars k (take n buf′) h ≡ advanceEars (length buf) (between k (take used buf)) (drop from chunk) h
-    line-ears h = ap (λ (r : Cut). partEars k (partOf r buf′ chunk) h) (sym e) ∙ ears-cut h
+    pub line-ears : (h : Ears) → lineEars k (take n buf′) h ≡ advanceEars (length buf) (betweenBytes k (take used buf)) (drop from chunk) h
+    line-ears h = ap (λ (r : Cut). partEars k (cutPart r buf′ chunk) h) (sym e) ∙ ears-cut h
 
   module _ (n : ℕ) (e : r ≡ More n) where
-    pub no-line : advanceAs (between k (take n buf′)) (drop (length chunk) chunk) [] ≡ advanceOf (length buf) (between k (take used buf)) (drop from chunk)
+    pub no-line : advanceAs (betweenBytes k (take n buf′)) (drop (length chunk) chunk) [] ≡ advanceOf (length buf) (betweenBytes k (take used buf)) (drop from chunk)
     no-line =
-        ap (λ (l : List ℕ). advanceAs (between k (take n buf′)) l []) (none-left chunk) ∙ ap (λ (r : Cut). partAdvance k (partOf r buf′ chunk)) (sym e) ∙ by-cut
+        ap (λ (l : List ℕ). advanceAs (betweenBytes k (take n buf′)) l []) (none-left chunk) ∙ ap (λ (r : Cut). partAdvance k (cutPart r buf′ chunk)) (sym e) ∙ by-cut
 
-    pub more-ears : (h : Ears) → h ≡ advanceEars (length buf) (between k (take used buf)) (drop from chunk) h
-    more-ears h = ap (λ (r : Cut). partEars k (partOf r buf′ chunk) h) (sym e) ∙ ears-cut h
+    pub more-ears : (h : Ears) → h ≡ advanceEars (length buf) (betweenBytes k (take used buf)) (drop from chunk) h
+    more-ears h = ap (λ (r : Cut). partEars k (cutPart r buf′ chunk) h) (sym e) ∙ ears-cut h
 
 -- how far the code was told to go
 module _ (buf chunk : List ℕ) (from : ℕ) (r : Cut) where
-  pub found-line : (next n : ℕ) → r ≡ Line next n → Within r from (length buf) (length chunk) → (n ≤ length buf) × (from < next) × (next ≤ length chunk)
-  found-line next n e h = subst (λ (r : Cut). Within r from (length buf) (length chunk)) e h
+  pub found-line : (next n : ℕ) → r ≡ Line next n → CutWithin r from (length buf) (length chunk) → (n ≤ length buf) × (from < next) × (next ≤ length chunk)
+  found-line next n e h = subst (λ (r : Cut). CutWithin r from (length buf) (length chunk)) e h
 
-  pub found-more : (n : ℕ) → r ≡ More n → Within r from (length buf) (length chunk) → n ≤ length buf
-  found-more n e h = subst (λ (r : Cut). Within r from (length buf) (length chunk)) e h
+  pub found-more : (n : ℕ) → r ≡ More n → CutWithin r from (length buf) (length chunk) → n ≤ length buf
+  found-more n e h = subst (λ (r : Cut). CutWithin r from (length buf) (length chunk)) e h
 
 -- what was written at the front
 module _ {xs d d′ : List ℕ} {n : ℕ} (p : Front xs d d′ n) where
@@ -117,32 +117,32 @@ pub says : {x t : Turn} {d d′ : List ℕ} {n : ℕ} → x ≡ t → Front (x .
 says {x} {d = d} {d′ = d′} {n = n} e p = subst (λ (t : Turn). TurnSays t (x .session) d d′ n) e (record { session = refl; printed = p })
 
 -- a load, by what it answered
-module _ (s : State) (d : Lists) (w′ : Work) (a : Loaded) (l : Load) (told : loadAs a w′ ≡ l) where
+module _ (s : State) (d : TextLists) (w′ : Work) (a : Loaded) (l : Load) (told : loadAs a w′ ≡ l) where
   by-answer : loadTurn s d w′ a ≡ byLoad s d l
   by-answer = ap (byLoad s d) told
 
-  pub load-ready : (look : Lookup) → a ≡ loaded.Ready look → turn (Ready s look) d w′ [] ≡ byLoad s d l
+  pub load-ready : (look : Lookup) → a ≡ loaded.Ready look → turnAs (Ready s look) d w′ [] ≡ byLoad s d l
   load-ready look e = ap (loadTurn s d w′) (sym e) ∙ by-answer
 
-  pub load-refused : (reason place : ℕ) → a ≡ loaded.Refused reason place → turn Over d w′ (refusedText reason place) ≡ byLoad s d l
+  pub load-refused : (reason place : ℕ) → a ≡ loaded.Refused reason place → turnAs Over d w′ (refusedText reason place) ≡ byLoad s d l
   load-refused reason place e = ap (loadTurn s d w′) (sym e) ∙ by-answer
 
 -- a line, by what it was
-module _ (f : Phase) (d : Lists) (w : Work) (t : Step) where
-  pub step-next : (g : Phase) (s : State) → g ≡ moved f s → t ≡ Next s → turn g d w [] ≡ stepTurn f t d w
-  step-next g s a e = ap (λ (g : Phase). turn g d w []) a ∙ ap (λ (t : Step). stepTurn f t d w) (sym e)
+module _ (f : Phase) (d : TextLists) (w : Work) (t : Step) where
+  pub step-next : (g : Phase) (s : State) → g ≡ phaseAfter f s → t ≡ Next s → turnAs g d w [] ≡ stepTurn f t d w
+  step-next g s a e = ap (λ (g : Phase). turnAs g d w []) a ∙ ap (λ (t : Step). stepTurn f t d w) (sym e)
 
   pub step-complete : {k : Session} {out out′ : List ℕ} {n : ℕ} (s : State) → TurnSays (byLoad s d (setOf s (d .positions) (length (d .responses)) w)) k out out′ n → t ≡ Complete s
       → TurnSays (stepTurn f t d w) k out out′ n
   step-complete {k} {out} {out′} {n} s a e = subst (λ (t : Step). TurnSays (stepTurn f t d w) k out out′ n) (sym e) a
 
-  pub step-query : (g : Phase) (s : State) (q : Point3) → g ≡ moved f s → t ≡ Query s q → turn g d w (blockIn f s (d .responses) (d .delays) w q) ≡ stepTurn f t d w
-  step-query g s q a e = ap (λ (g : Phase). turn g d w (blockIn f s (d .responses) (d .delays) w q)) a ∙ ap (λ (t : Step). stepTurn f t d w) (sym e)
+  pub step-query : (g : Phase) (s : State) (q : Point3) → g ≡ phaseAfter f s → t ≡ Query s q → turnAs g d w (blockIn f s (d .responses) (d .delays) w q) ≡ stepTurn f t d w
+  step-query g s q a e = ap (λ (g : Phase). turnAs g d w (blockIn f s (d .responses) (d .delays) w q)) a ∙ ap (λ (t : Step). stepTurn f t d w) (sym e)
 
-  pub step-bad : (k : ℕ) → t ≡ Malformed k → turn Over d w (formError k) ≡ stepTurn f t d w
+  pub step-bad : (k : ℕ) → t ≡ Malformed k → turnAs Over d w (formError k) ≡ stepTurn f t d w
   step-bad k e = ap (λ (t : Step). stepTurn f t d w) (sym e)
 
-module _ (f : Phase) (d : Lists) (l : List ℕ) (a : After) (s : State) (told : a ≡ lineOf s l d) (of : s ≡ stateIn f) where
+module _ (f : Phase) (d : TextLists) (l : List ℕ) (a : After) (s : State) (told : a ≡ lineOf s l d) (of : s ≡ stateIn f) where
   by-line : a ≡ lineOf (stateIn f) l d
   by-line = told ∙ ap (λ (s : State). lineOf s l d) of
 

@@ -7,10 +7,10 @@ use mathlib.Core.Bool.{Bool, true, false}
 use mathlib.Core.List.{List, [], _∷_, _++_, append-assoc, append-nil}
 use lib.Dec.{T, lit≤}
 use lib.ListN.{take, drop}
-use Rattle.lines.specs.Lines.{Part, line, more, cut, whole as all}
-use Rattle.lines.specs.Machine.{At, split, runs, after, shortAt}
-use Rattle.lines.proofs.Chunks.{runs-on, runs-kept, stays, by-lines, by-text, by-rest}
-use Rattle.settext.specs.Lines.{Lists, After}
+use Rattle.text.specs.Lines.{Part, line, more, cut, whole as all}
+use Rattle.text.specs.Machine.{At, split, runs, afterPart, shortAt}
+use Rattle.text.proofs.Chunks.{runs-on, runs-kept, stays, by-lines, by-text, by-rest}
+use Rattle.settext.specs.Lines.{TextLists, After}
 use Rattle.setread.specs.Text.{joined}
 use Rattle.setread.proofs.Long.{long-lines}
 use Rattle.setread.proofs.Whole.{end-of}
@@ -20,9 +20,9 @@ use Rattle.queries.specs.declared.Run.{Run}
 use Rattle.queries.specs.declared.Told.{Told}
 use Rattle.queries.specs.declared.Phase.{Phase}
 use Rattle.queries.specs.declared.Phase.the-variants.{Reading, Ready, Over}
-use Rattle.queries.specs.Program.{Session, Known, known, Ears, stateIn, isOver, afterTurn, lineTurn, ended, printing, onLine, endText, closing, closed, begun, outputFrom, noLists, noWork, outputOf}
+use Rattle.queries.specs.Program.{Session, Known, knownAs, Ears, stateIn, isOver, afterTurn, lineTurn, ended, printing, onLine, endText, closing, closed, begun, outputFrom, noLists, noWork, outputOf}
 use Rattle.queries.specs.Sound.{SoundPhase}
-use Rattle.queries.specs.Machine.{between, Advance, partAdvance, advanceOf, placeOf, AdvanceSays, FinishSays, Makes, done, next, goes}
+use Rattle.queries.specs.Machine.{betweenBytes, Advance, partAdvance, advanceOf, runPlace, AdvanceSays, FinishSays, Makes, done, next, goes}
 use Rattle.queries.proofs.Keeps.{turn-sound}
 use Rattle.queries.proofs.Turns.{silent, goes-by, front}
 
@@ -30,7 +30,7 @@ use Rattle.queries.proofs.Turns.{silent, goes-by, front}
 
 -- between two bytes, with this printed so far
 abbrev at : List ℕ → At Session → At Known
-at p a = record { known = known (a .known) p; have = a .have }
+at p a = record { known = knownAs (a .known) p; have = a .have }
 
 abbrev goesOn : List ℕ → Advance → At Known
 goesOn p a = at (p ++ a .printed) (a .place)
@@ -39,8 +39,8 @@ module _ (room : ℕ) where
   abbrev over-chunk : At Known → List ℕ → At Known
   over-chunk a s = runs ended onLine (take room) a s
 
-  by-part : (p : List ℕ) (k : Session) (x : Part) → after ended onLine (take room) (known k p) x ≡ over-chunk (goesOn p (partAdvance k x)) (partAdvance k x .left)
-  unfolding after runs onLine
+  by-part : (p : List ℕ) (k : Session) (x : Part) → afterPart ended onLine (take room) (knownAs k p) x ≡ over-chunk (goesOn p (partAdvance k x)) (partAdvance k x .left)
+  unfolding afterPart runs onLine
   by-part p k (line l rest) = refl
   by-part p k (more h) = rw (append-nil p)
 
@@ -55,7 +55,7 @@ module _ (room : ℕ) where
           ∙ ap (λ (q : List ℕ). at q a) (sym (append-nil p))
           ∙ ap (λ (z : Advance). over-chunk (goesOn p z) (z .left)) (sym (silent room a s e))
       by false e =
-          by-lines ended onLine (take room) (known (a .known) p) (a .have) s e
+          by-lines ended onLine (take room) (knownAs (a .known) p) (a .have) s e
           ∙ by-part p (a .known) (cut (take room) (a .have) s)
           ∙ ap (λ (z : Advance). over-chunk (goesOn p z) (z .left)) (sym (goes-by room a s e))
 
@@ -79,20 +79,20 @@ end-kept room (Reading s) h rest e = ap endText (end-of room s h rest (e refl))
 end-kept room (Ready s look) h rest e = ap endText (end-of room s h rest (e refl))
 end-kept room Over h rest e = refl
 
-abbrev first : Lists → Work → At Known
-first d w = at [] (between (begun d w) [])
+abbrev first : TextLists → Work → At Known
+first d w = at [] (betweenBytes (begun d w) [])
 
 abbrev closedAt : At Known → List ℕ
 closedAt a = closed (a .known) (a .have)
 
-module _ (room : ℕ) (large : 40000 ≤ suc room) (d : Lists) (w : Work) where
+module _ (room : ℕ) (large : 40000 ≤ suc room) (d : TextLists) (w : Work) where
   by-all : (s : List ℕ) → closedAt (shortAt (suc room) (runs ended onLine all (first d w) s)) ≡ outputFrom d w s
   unfolding outputFrom
   by-all s =
-      let k = by-text ended onLine (known (begun d w) []) [] s in
+      let k = by-text ended onLine (knownAs (begun d w) []) [] s in
       let r = runs ended onLine all (first d w) s in
       ap (λ (t : List ℕ). r .known .printed ++ t)
-      (end-kept room (r .known .session .phase) (r .have) (split s .rest) (λ e. by-rest ended onLine (known (begun d w) []) [] s (ap ended (sym k) ∙ e)))
+      (end-kept room (r .known .session .phase) (r .have) (split s .rest) (λ e. by-rest ended onLine (knownAs (begun d w) []) [] s (ap ended (sym k) ∙ e)))
       ∙ ap (λ (a : Known). closed a (split s .rest)) k
 
   -- no line is looked at past the buffer
@@ -108,13 +108,13 @@ module _ (room : ℕ) (large : 40000 ≤ suc room) (d : Lists) (w : Work) where
 
   comes-to : (s : List ℕ) (a : At Known) → runs ended onLine (take (suc room)) (first d w) s ≡ a → closedAt a ≡ outputFrom d w s
   comes-to s a e =
-      ap closedAt (sym e ∙ runs-kept ended onLine (suc room) (λ k. SoundPhase (k .session .phase)) keeps blind (known (begun d w) []) [] s begins-so)
+      ap closedAt (sym e ∙ runs-kept ended onLine (suc room) (λ k. SoundPhase (k .session .phase)) keeps blind (knownAs (begun d w) []) [] s begins-so)
       ∙ by-all s
 
   -- ---- the whole program
 
   -- Where the text is divided, and how large the line buffer is, does not matter
-  pub whole : {z : At Session} {cs : List (List ℕ)} {p : List ℕ} → Makes (suc room) (between (begun d w) []) cs p z
+  pub whole : {z : At Session} {cs : List (List ℕ)} {p : List ℕ} → Makes (suc room) (betweenBytes (begun d w) []) cs p z
       → p ++ closing (z .known .phase) (z .have) ≡ outputFrom d w (joined cs)
   whole {z} {cs} {p} m = comes-to (joined cs) (at p z) (each (suc room) [] m)
 
@@ -124,7 +124,7 @@ module _ (room : ℕ) (large : 40000 ≤ suc room) (d : Lists) (w : Work) where
   nothing-left Over h p e = append-nil p
 
   -- Once over, all is printed: whatever the text goes on with
-  pub nothing-more : {z : At Session} {cs : List (List ℕ)} {p : List ℕ} → Makes (suc room) (between (begun d w) []) cs p z → isOver (z .known .phase) ≡ true
+  pub nothing-more : {z : At Session} {cs : List (List ℕ)} {p : List ℕ} → Makes (suc room) (betweenBytes (begun d w) []) cs p z → isOver (z .known .phase) ≡ true
       → (t : List ℕ) → p ≡ outputFrom d w (joined cs ++ t)
   nothing-more {z} {cs} {p} m e t =
       sym (nothing-left (z .known .phase) (z .have) p e)
@@ -134,7 +134,7 @@ module _ (room : ℕ) (large : 40000 ≤ suc room) (d : Lists) (w : Work) where
       ∙ stays ended onLine (take (suc room)) (at p z) t e)
 
 -- The program, with its line buffer of 40000 bytes and its lists of zeros
-pub program : {z : At Session} {cs : List (List ℕ)} {p : List ℕ} → Makes 40000 (between (begun noLists noWork) []) cs p z
+pub program : {z : At Session} {cs : List (List ℕ)} {p : List ℕ} → Makes 40000 (betweenBytes (begun noLists noWork) []) cs p z
     → p ++ closing (z .known .phase) (z .have) ≡ outputOf (joined cs)
 unfolding outputOf
 program m = whole 39999 (lit≤ tt) noLists noWork m
@@ -142,12 +142,12 @@ program m = whole 39999 (lit≤ tt) noLists noWork m
 -- ---- in the code's terms
 
 -- what `advance` promises is a turn
-pub told : {chunk : List ℕ} {from : ℕ} {buf buf′ : List ℕ} {t : Run} {d d′ : Lists} {w w′ : Work} {e e′ : Ears} {out out′ : List ℕ} {r : Told} {cs : List (List ℕ)} {p : List ℕ} {z : At Session}
-    → AdvanceSays chunk from buf buf′ t d d′ w w′ e e′ out out′ r → Makes 40000 (placeOf (r .run) d′ w′ buf′) (drop (r .next) chunk ∷ cs) p z
-    → Makes 40000 (placeOf t d w buf) (drop from chunk ∷ cs) (take (r .count) out′ ++ p) z
+pub told : {chunk : List ℕ} {from : ℕ} {buf buf′ : List ℕ} {t : Run} {d d′ : TextLists} {w w′ : Work} {e e′ : Ears} {out out′ : List ℕ} {r : Told} {cs : List (List ℕ)} {p : List ℕ} {z : At Session}
+    → AdvanceSays chunk from buf buf′ t d d′ w w′ e e′ out out′ r → Makes 40000 (runPlace (r .run) d′ w′ buf′) (drop (r .next) chunk ∷ cs) p z
+    → Makes 40000 (runPlace t d w buf) (drop from chunk ∷ cs) (take (r .count) out′ ++ p) z
 told says m = rw (front (says .printed)) (goes (rw (says .place, says .left) at m))
 
 -- what the turns over a text said to print, and what `finish` says then, is the output of the text
-pub printed : {cs : List (List ℕ)} {p out out′ : List ℕ} {d : Lists} {w : Work} {r : ℕ} (t : Run) (buf : List ℕ)
-    → Makes 40000 (between (begun noLists noWork) []) cs p (placeOf t d w buf) → FinishSays buf t out out′ r → p ++ take r out′ ≡ outputOf (joined cs)
+pub printed : {cs : List (List ℕ)} {p out out′ : List ℕ} {d : TextLists} {w : Work} {r : ℕ} (t : Run) (buf : List ℕ)
+    → Makes 40000 (betweenBytes (begun noLists noWork) []) cs p (runPlace t d w buf) → FinishSays buf t out out′ r → p ++ take r out′ ≡ outputOf (joined cs)
 printed {p = p} t buf m says = ap (λ (l : List ℕ). p ++ l) (front says) ∙ program m

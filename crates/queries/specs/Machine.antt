@@ -5,13 +5,13 @@ use mathlib.Core.List.{List, [], _∷_, _++_}
 use lib.ListN.{length, take, drop}
 use lib.Ieee.{Float}
 use Rattle.lists.specs.Over.{over}
-use Rattle.lines.specs.Lines.{Part, line, more, cut}
-use Rattle.lines.specs.Machine.{At, choose}
+use Rattle.text.specs.Lines.{Part, line, more, cut}
+use Rattle.text.specs.Machine.{At, choose}
 use Rattle.points.specs.declared.Point3.{Point3}
 use Rattle.settext.specs.declared.State.{State}
 use Rattle.settext.specs.declared.Step.{Step}
-use Rattle.settext.specs.State.{startOf}
-use Rattle.settext.specs.Lines.{Lists}
+use Rattle.settext.specs.State.{startState}
+use Rattle.settext.specs.Lines.{TextLists}
 use Rattle.loads.specs.Load.{Work}
 use Rattle.answers.specs.Answers.{setOf}
 use Rattle.queries.specs.declared.Phase.{Phase}
@@ -23,11 +23,11 @@ use Rattle.queries.specs.Program.{Session, session, Turn, isOver, blockI
 use Rattle.queries.specs.Sound.{Sound}
 
 abbrev pub startRun : Run
-startRun = record { phase = Reading startOf; used = 0 }
+startRun = record { phase = Reading startState; used = 0 }
 
 -- between two bytes: the session, and what is kept of the line begun
-abbrev pub between : Session → List ℕ → At Session
-between k h = record { known = k; have = h }
+abbrev pub betweenBytes : Session → List ℕ → At Session
+betweenBytes k h = record { known = k; have = h }
 
 -- where a turn comes to, what is left of the chunk, and what is printed
 pub record Advance : Type 0 where
@@ -39,11 +39,11 @@ abbrev pub advanceAs : At Session → List ℕ → List ℕ → Advance
 advanceAs a l p = record { place = a; left = l; printed = p }
 
 abbrev pub lineAdvance : Turn → List ℕ → Advance
-lineAdvance t rest = advanceAs (between (t .session) []) rest (t .printed)
+lineAdvance t rest = advanceAs (betweenBytes (t .session) []) rest (t .printed)
 
 abbrev pub partAdvance : Session → Part → Advance
 partAdvance k (line l rest) = lineAdvance (lineTurn k l) rest
-partAdvance k (more h) = advanceAs (between k h) [] []
+partAdvance k (more h) = advanceAs (betweenBytes k h) [] []
 
 -- with a line buffer of so many bytes; once over, nothing is read and nothing printed
 unfoldable pub advanceOf : ℕ → At Session → List ℕ → Advance
@@ -58,8 +58,8 @@ unfoldable pub advanceEars : ℕ → At Session → List ℕ → Ears → Ears
 advanceEars room a s e = choose (isOver (a .known .phase)) e (partEars (a .known) (cut (take room) (a .have) s) e)
 
 -- the place that a run stands for, by the lent lists
-abbrev pub placeOf : Run → Lists → Work → List ℕ → At Session
-placeOf t d w buf = between (session (t .phase) d w) (take (t .used) buf)
+abbrev pub runPlace : Run → TextLists → Work → List ℕ → At Session
+runPlace t d w buf = betweenBytes (session (t .phase) d w) (take (t .used) buf)
 
 -- ---- what the calls promise
 
@@ -78,21 +78,21 @@ pub record AskSays (f : Phase) (s : State) (responses delays : List Float) (w : 
   pub ears : e′ ≡ earsIn f s responses delays w q e
 
 abbrev pub LoadSays : State → List Float → List Float → Work → Work → List ℕ → List ℕ → Turned → Type 0
-LoadSays s positions responses w w′ out out′ r = (d : Lists) → TurnSays (byLoad s d (setOf s positions (length responses) w)) (session (r .phase) d w′) out out′ (r .count)
+LoadSays s positions responses w w′ out out′ r = (d : TextLists) → TurnSays (byLoad s d (setOf s positions (length responses) w)) (session (r .phase) d w′) out out′ (r .count)
 
-pub record StepSays (f : Phase) (t : Step) (d : Lists) (w w′ : Work) (e e′ : Ears) (out out′ : List ℕ) (r : Turned) : Type 0 where
+pub record StepSays (f : Phase) (t : Step) (d : TextLists) (w w′ : Work) (e e′ : Ears) (out out′ : List ℕ) (r : Turned) : Type 0 where
   pub turn : TurnSays (stepTurn f t d w) (session (r .phase) d w′) out out′ (r .count)
   pub ears : e′ ≡ stepEars f t d w e
 
-pub record LineSays (f : Phase) (l : List ℕ) (d d′ : Lists) (w w′ : Work) (e e′ : Ears) (out out′ : List ℕ) (r : Turned) : Type 0 where
+pub record LineSays (f : Phase) (l : List ℕ) (d d′ : TextLists) (w w′ : Work) (e e′ : Ears) (out out′ : List ℕ) (r : Turned) : Type 0 where
   pub turn : TurnSays (lineTurn (session f d w) l) (session (r .phase) d′ w′) out out′ (r .count)
   pub ears : e′ ≡ lineEars (session f d w) l e
 
-pub record AdvanceSays (chunk : List ℕ) (from : ℕ) (buf buf′ : List ℕ) (t : Run) (d d′ : Lists) (w w′ : Work) (e e′ : Ears) (out out′ : List ℕ) (r : Told) : Type 0 where
-  pub place : placeOf (r .run) d′ w′ buf′ ≡ advanceOf 40000 (placeOf t d w buf) (drop from chunk) .place
-  pub left : drop (r .next) chunk ≡ advanceOf 40000 (placeOf t d w buf) (drop from chunk) .left
-  pub printed : Front (advanceOf 40000 (placeOf t d w buf) (drop from chunk) .printed) out out′ (r .count)
-  pub ears : e′ ≡ advanceEars 40000 (placeOf t d w buf) (drop from chunk) e
+pub record AdvanceSays (chunk : List ℕ) (from : ℕ) (buf buf′ : List ℕ) (t : Run) (d d′ : TextLists) (w w′ : Work) (e e′ : Ears) (out out′ : List ℕ) (r : Told) : Type 0 where
+  pub place : runPlace (r .run) d′ w′ buf′ ≡ advanceOf 40000 (runPlace t d w buf) (drop from chunk) .place
+  pub left : drop (r .next) chunk ≡ advanceOf 40000 (runPlace t d w buf) (drop from chunk) .left
+  pub printed : Front (advanceOf 40000 (runPlace t d w buf) (drop from chunk) .printed) out out′ (r .count)
+  pub ears : e′ ≡ advanceEars 40000 (runPlace t d w buf) (drop from chunk) e
   pub sound : Sound (r .run)
   pub next : r .next ≤ length chunk
   pub moves : from < length chunk → from < r .next

@@ -15,16 +15,16 @@ ghost use lib.ListN.{length};
 ghost use Rattle.lists.specs.Over.{over};
 ghost use Rattle.loads.specs.Load.{workOf};
 ghost use Rattle.settext.specs.Lines.{endOf};
-ghost use Rattle.queries.specs.Program.{listsOf, stateIn, isOver, moved, earsOf, endText};
+ghost use Rattle.queries.specs.Program.{textLists, stateIn, isOver, phaseAfter, earsOf, endText};
 ghost use Rattle.queries.specs.Sound.{Few, SoundPhase, Sound, Rooms};
 ghost use Rattle.queries.specs.Machine.{startRun, AskSays, LoadSays, StepSays, LineSays, AdvanceSays, FinishSays};
-use lines::Cut;
 use loads::Loaded;
 use lookup::Lookup;
 use points::Point3;
 use settext::End;
 use settext::State;
 use settext::Step;
+use text::Cut;
 
 // How far the program is.
 pub enum Phase {
@@ -87,7 +87,7 @@ pub fn is_over(t: Run) -> bool
 }
 
 fn moved_to(f: Phase, s: State) -> Phase
-    ensures { λ r. ⌜ r ≡ moved f s ⌝ }
+    ensures { λ r. ⌜ r ≡ phaseAfter f s ⌝ }
 {
     match f {
         Phase::Reading(_) => Phase::Reading(s),
@@ -178,7 +178,7 @@ fn by_step(
     out: &mut [u8],
 ) -> Turned
     requires { ⌜ Few step × Rooms (length (now positions)) (length (now delays)) (length (now «out_left»)) (length (now «out_right»)) (length (now out)) ⌝ }
-    ensures { λ r. ⌜ StepSays f step (listsOf (now (positions .entry)) (now (responses .entry)) (now (delays .entry))) (workOf (now (left .entry)) (now (right .entry)) (now (neighbours .entry)) (now (cartesian .entry))) (workOf (now (left .exit)) (now (right .exit)) (now (neighbours .exit)) (now (cartesian .exit)))
+    ensures { λ r. ⌜ StepSays f step (textLists (now (positions .entry)) (now (responses .entry)) (now (delays .entry))) (workOf (now (left .entry)) (now (right .entry)) (now (neighbours .entry)) (now (cartesian .entry))) (workOf (now (left .exit)) (now (right .exit)) (now (neighbours .exit)) (now (cartesian .exit)))
         (earsOf (now («out_left» .entry)) (now («out_right» .entry))) (earsOf (now («out_left» .exit)) (now («out_right» .exit))) (now (out .entry)) (now (out .exit)) r ⌝ }
 {
     match step {
@@ -236,7 +236,7 @@ fn take_line(
     out: &mut [u8],
 ) -> Turned
     requires { ⌜ SoundPhase f × Rooms (length (now positions)) (length (now delays)) (length (now «out_left»)) (length (now «out_right»)) (length (now out)) ⌝ }
-    ensures { λ r. ⌜ LineSays f (now (line .entry)) (listsOf (now (positions .entry)) (now (responses .entry)) (now (delays .entry))) (listsOf (now (positions .exit)) (now (responses .exit)) (now (delays .exit))) (workOf (now (left .entry)) (now (right .entry)) (now (neighbours .entry)) (now (cartesian .entry))) (workOf (now (left .exit)) (now (right .exit)) (now (neighbours .exit)) (now (cartesian .exit)))
+    ensures { λ r. ⌜ LineSays f (now (line .entry)) (textLists (now (positions .entry)) (now (responses .entry)) (now (delays .entry))) (textLists (now (positions .exit)) (now (responses .exit)) (now (delays .exit))) (workOf (now (left .entry)) (now (right .entry)) (now (neighbours .entry)) (now (cartesian .entry))) (workOf (now (left .exit)) (now (right .exit)) (now (neighbours .exit)) (now (cartesian .exit)))
         (earsOf (now («out_left» .entry)) (now («out_right» .entry))) (earsOf (now («out_left» .exit)) (now («out_right» .exit))) (now (out .entry)) (now (out .exit)) r ⌝ }
 {
     let step = settext::take_line(state_in(f), line, positions, responses, delays);
@@ -274,7 +274,7 @@ fn turn(
     out: &mut [u8],
 ) -> Told
     requires { ⌜ (at ≤ length (now chunk)) × Sound t × (length (now buf) ≡ 40000) × Rooms (length (now positions)) (length (now delays)) (length (now «out_left»)) (length (now «out_right»)) (length (now out)) ⌝ }
-    ensures { λ r. ⌜ AdvanceSays (now (chunk .entry)) at (now (buf .entry)) (now (buf .exit)) t (listsOf (now (positions .entry)) (now (responses .entry)) (now (delays .entry))) (listsOf (now (positions .exit)) (now (responses .exit)) (now (delays .exit))) (workOf (now (left .entry)) (now (right .entry)) (now (neighbours .entry)) (now (cartesian .entry))) (workOf (now (left .exit)) (now (right .exit)) (now (neighbours .exit)) (now (cartesian .exit)))
+    ensures { λ r. ⌜ AdvanceSays (now (chunk .entry)) at (now (buf .entry)) (now (buf .exit)) t (textLists (now (positions .entry)) (now (responses .entry)) (now (delays .entry))) (textLists (now (positions .exit)) (now (responses .exit)) (now (delays .exit))) (workOf (now (left .entry)) (now (right .entry)) (now (neighbours .entry)) (now (cartesian .entry))) (workOf (now (left .exit)) (now (right .exit)) (now (neighbours .exit)) (now (cartesian .exit)))
         (earsOf (now («out_left» .entry)) (now («out_right» .entry))) (earsOf (now («out_left» .exit)) (now («out_right» .exit))) (now (out .entry)) (now (out .exit)) r ⌝ }
 {
     if is_over(t) {
@@ -285,7 +285,7 @@ fn turn(
         };
     }
     let f = t.phase;
-    match lines::next_line(chunk, at, buf, t.used) {
+    match text::next_line(chunk, at, buf, t.used) {
         Cut::Line(next, n) => {
             let told = take_line(
                 f,
@@ -335,7 +335,7 @@ pub fn advance(
     out: &mut [u8; 73848],
 ) -> Told
     requires { ⌜ (at ≤ length (now chunk)) × Sound t ⌝ }
-    ensures { λ r. ⌜ AdvanceSays (now (chunk .entry)) at (now (buf .entry)) (now (buf .exit)) t (listsOf (now (positions .entry)) (now (responses .entry)) (now (delays .entry))) (listsOf (now (positions .exit)) (now (responses .exit)) (now (delays .exit))) (workOf (now (left .entry)) (now (right .entry)) (now (neighbours .entry)) (now (cartesian .entry))) (workOf (now (left .exit)) (now (right .exit)) (now (neighbours .exit)) (now (cartesian .exit)))
+    ensures { λ r. ⌜ AdvanceSays (now (chunk .entry)) at (now (buf .entry)) (now (buf .exit)) t (textLists (now (positions .entry)) (now (responses .entry)) (now (delays .entry))) (textLists (now (positions .exit)) (now (responses .exit)) (now (delays .exit))) (workOf (now (left .entry)) (now (right .entry)) (now (neighbours .entry)) (now (cartesian .entry))) (workOf (now (left .exit)) (now (right .exit)) (now (neighbours .exit)) (now (cartesian .exit)))
         (earsOf (now («out_left» .entry)) (now («out_right» .entry))) (earsOf (now («out_left» .exit)) (now («out_right» .exit))) (now (out .entry)) (now (out .exit)) r ⌝ }
 {
     turn(

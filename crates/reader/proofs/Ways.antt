@@ -18,24 +18,24 @@ use Rattle.lookup.specs.declared.Located.the-variants.{At, Refused}
 use Rattle.lookup.specs.Lookup.{verdictIn, locateOf, treeLengths}
 use Rattle.mix.specs.Mix.{Sized}
 use Rattle.interpolate.specs.Blend.{Filter, extractOf, interpolateOf}
-use Rattle.reader.specs.Queries.{silent, allowed, nearestOr, lengthsOf, filterSays, plainSays, numberSays}
+use Rattle.reader.specs.Queries.{refusedBy, allowed, nearestOr, lengthsOf, filterSays, plainSays, numberSays}
 use Rattle.reader.proofs.Near.{located-below}
 
 -- ---- one way at a time
 
 module _ (v w : Verdict) (ll rl : ℕ) (f : Filter) (e : w ≡ v) where
-  no : (number place : ℕ) → w ≡ verdict.Refused number place → silent w ll rl ≡ allowed v ll rl f
+  no : (number place : ℕ) → w ≡ verdict.Refused number place → refusedBy w ll rl ≡ allowed v ll rl f
   unfolding allowed
-  no number place h = ap (λ (u : Verdict). silent u ll rl) h ∙ sym (ap (λ (u : Verdict). allowed u ll rl f) (sym e ∙ h))
+  no number place h = ap (λ (u : Verdict). refusedBy u ll rl) h ∙ sym (ap (λ (u : Verdict). allowed u ll rl f) (sym e ∙ h))
 
   yes : w ≡ verdict.Fine → f ≡ allowed v ll rl f
   unfolding allowed
   yes h = sym (ap (λ (u : Verdict). allowed u ll rl f) (sym e ∙ h))
 
 module _ (v w : Located) (ll rl : ℕ) (f : ℕ → Filter) (e : w ≡ v) where
-  lost : (number place : ℕ) (u : Verdict) → w ≡ Refused number place → u ≡ verdictIn w → silent u ll rl ≡ nearestOr v ll rl f
+  lost : (number place : ℕ) (u : Verdict) → w ≡ Refused number place → u ≡ verdictIn w → refusedBy u ll rl ≡ nearestOr v ll rl f
   unfolding nearestOr
-  lost number place u h eu = ap (λ (t : Verdict). silent t ll rl) (eu ∙ ap verdictIn h) ∙ sym (ap (λ (t : Located). nearestOr t ll rl f) (sym e ∙ h))
+  lost number place u h eu = ap (λ (t : Verdict). refusedBy t ll rl) (eu ∙ ap verdictIn h) ∙ sym (ap (λ (t : Located). nearestOr t ll rl f) (sym e ∙ h))
 
   near : (k : ℕ) → w ≡ At k → f k ≡ nearestOr v ll rl f
   unfolding nearestOr
@@ -76,13 +76,13 @@ module _ (s : Sizes) (look : Lookup) (cart : List Float) (left right neigh : Lis
     abbrev further : Filter
     further = nearestOr (locateOf look (s .m) cart left right q) ll rl blended
 
-    pub filter-refused : (number place : ℕ) → w ≡ verdict.Refused number place → silent w ll rl ≡ filterSays s look cart left right neigh resp delays rate q ll rl
+    pub filter-refused : (number place : ℕ) → w ≡ verdict.Refused number place → refusedBy w ll rl ≡ filterSays s look cart left right neigh resp delays rate q ll rl
     unfolding filterSays
     filter-refused number place h = no asked w ll rl further judged number place h
 
     module _ (fine : w ≡ verdict.Fine) (found : Located) (e : found ≡ locateOf look (s .m) cart left right q) where
       pub filter-lost : (number place : ℕ) (u : Verdict) → found ≡ Refused number place → u ≡ verdictIn found
-          → silent u ll rl ≡ filterSays s look cart left right neigh resp delays rate q ll rl
+          → refusedBy u ll rl ≡ filterSays s look cart left right neigh resp delays rate q ll rl
       unfolding filterSays
       filter-lost number place u h eu = lost (locateOf look (s .m) cart left right q) found ll rl blended e number place u h eu ∙ yes asked w ll rl further judged fine
 
@@ -121,12 +121,12 @@ module _ (s : Sizes) (look : Lookup) (cart : List Float) (left right : List ℕ)
     abbrev plain-further : Filter
     plain-further = nearestOr (locateOf look (s .m) cart left right q) ll rl plain-taps
 
-    pub plain-refused : (number place : ℕ) → w ≡ verdict.Refused number place → silent w ll rl ≡ plainSays s look cart left right resp delays rate q ll rl
+    pub plain-refused : (number place : ℕ) → w ≡ verdict.Refused number place → refusedBy w ll rl ≡ plainSays s look cart left right resp delays rate q ll rl
     unfolding plainSays
     plain-refused number place h = no plain-asked w ll rl plain-further plain-judged number place h
 
     module _ (fine : w ≡ verdict.Fine) (found : Located) (e : found ≡ locateOf look (s .m) cart left right q) where
-      pub plain-lost : (number place : ℕ) (u : Verdict) → found ≡ Refused number place → u ≡ verdictIn found → silent u ll rl ≡ plainSays s look cart left right resp delays rate q ll rl
+      pub plain-lost : (number place : ℕ) (u : Verdict) → found ≡ Refused number place → u ≡ verdictIn found → refusedBy u ll rl ≡ plainSays s look cart left right resp delays rate q ll rl
       unfolding plainSays
       plain-lost number place u h eu = lost (locateOf look (s .m) cart left right q) found ll rl plain-taps e number place u h eu ∙ yes plain-asked w ll rl plain-further plain-judged fine
 
@@ -143,7 +143,7 @@ module _ (s : Sizes) (resp delays : List Float) (rate : Float) (number : ℕ) (w
       (sized s (h .sizes), h .below, passed.responses-room s (length resp) (h .fits))
 
   module _ (ll rl : ℕ) where
-    pub number-refused : (n p : ℕ) → w ≡ verdict.Refused n p → silent w ll rl ≡ numberSays s resp delays rate number ll rl
+    pub number-refused : (n p : ℕ) → w ≡ verdict.Refused n p → refusedBy w ll rl ≡ numberSays s resp delays rate number ll rl
     unfolding numberSays
     number-refused n p h = no (verdictOf (ratedLines s (responsesFit s (length resp)) rate number)) w ll rl (extractOf (s .m) (s .r) (s .n) resp delays rate ll rl number) ew n p h
 

@@ -24,8 +24,8 @@ lengthsOf cart left right resp near = record { tree = treeLengths cart left righ
 -- ---- refusals: "sets every left and right sample to +0 and answers no delays"
 
 -- the refusal of a verdict, over outputs of these two lengths
-abbrev pub silent : Verdict → ℕ → ℕ → Filter
-silent v ll rl = refusedOf (reasonOf v) (placeOf v) ll rl
+abbrev pub refusedBy : Verdict → ℕ → ℕ → Filter
+refusedBy v ll rl = refusedOf (reasonOf v) (placeOf v) ll rl
 
 -- nothing is refused beforehand
 unfoldable pub allowed : Verdict → ℕ → ℕ → Filter → Filter

@@ -17,7 +17,7 @@ ghost use mathlib.Core.Path.{_≡_};
 ghost use lib.ListN.{length};
 ghost use Rattle.interpolate.specs.Blend.{filterOf};
 ghost use Rattle.lookup.specs.Lookup.{treeLengths};
-ghost use Rattle.reader.specs.Queries.{silent, filterSays, plainSays, numberSays};
+ghost use Rattle.reader.specs.Queries.{refusedBy, filterSays, plainSays, numberSays};
 
 fn tree_lengths(cartesian: &[f32], left: &[u16], right: &[u16]) -> TreeLengths
     ensures { λ r. ⌜ r ≡ treeLengths (now (cartesian .entry)) (now (left .entry)) (now (right .entry)) ⌝ }
@@ -31,7 +31,7 @@ fn tree_lengths(cartesian: &[f32], left: &[u16], right: &[u16]) -> TreeLengths
 
 // The refusal of a verdict: every sample of both outputs is +0.
 fn refuse(v: Verdict, out_left: &mut [f32], out_right: &mut [f32]) -> Outcome
-    ensures { λ o. ⌜ filterOf o (now («out_left» .exit)) (now («out_right» .exit)) ≡ silent v (length (now («out_left» .entry))) (length (now («out_right» .entry))) ⌝ }
+    ensures { λ o. ⌜ filterOf o (now («out_left» .exit)) (now («out_right» .exit)) ≡ refusedBy v (length (now («out_left» .entry))) (length (now («out_right» .entry))) ⌝ }
 {
     interpolate::refuse(limits::reason(v), limits::place(v), out_left, out_right)
 }

@@ -12,22 +12,22 @@ use lib.Ieee.{Float}
 use borrow.Author.Tests.{ne-eqb, ltb-true, ltb-false}
 use Rattle.text.specs.declared.Num.{Num}
 use Rattle.text.specs.declared.Num.the-variants.{Bad}
-use Rattle.text.specs.Number.{begins, countOf, hexOf, pick}
+use Rattle.text.specs.Number.{begins, countOf, hexOf, pickNum}
 use Rattle.text.specs.Values.{valuesOk, stored}
 use Rattle.text.proofs.Reading.{long-count, other-length}
-use Rattle.keys.specs.declared.Place.the-variants.{Nowhere}
-use Rattle.keys.specs.Words.{bytes}
-use Rattle.keys.specs.Keys.{exactlyOf, behind, valuesFit, pointIn, pointBehind}
+use Rattle.text.specs.declared.Place.the-variants.{Nowhere}
+use Rattle.text.specs.Words.{bytes}
+use Rattle.text.specs.Keys.{exactlyOf, numBehind, valuesFit, pointRead, pointBehind}
 use Rattle.settext.specs.declared.State.{State}
 use Rattle.settext.specs.State.{badOf}
-use Rattle.settext.specs.Lines.{Lists, product, kindOf, keys, keyLine, formLine, kindLine, mLine, rLine, nLine, rateLine, astepLine, rstepLine, delaysLine, valuesLine, valuesList, queryLine, lineOf}
+use Rattle.settext.specs.Lines.{TextLists, product, kindOf, keys, keyLine, formLine, kindLine, mLine, rLine, nLine, rateLine, astepLine, rstepLine, delaysLine, valuesStep, valuesList, queryLine, lineOf}
 
 no-word : (w s : List ℕ) → length w < length s → exactlyOf w s ≡ false
 unfolding exactlyOf
 no-word w s h = rw (ne-eqb (length s) (length w) (λ e. omega arith)) (and-false (begins w s))
 
 no-hex : (s : List ℕ) → 39990 < length s → hexOf s ≡ Bad
-unfolding hexOf pick
+unfolding hexOf pickNum
 no-hex s h = rw (ne-eqb (length s) 8 (λ e. omega arith))
 
 no-values : (s : List ℕ) (n : ℕ) → 39990 < length s → n ≤ 4096 → valuesOk s n ≡ false
@@ -52,18 +52,18 @@ module _ (l : List ℕ) (long : 40000 ≤ length l) where
   rest-long : (k : ℕ) → k < 10 → 39990 < length (drop k l)
   rest-long k h = simp length-drop (omega arith)
 
-  behind-bad : (key : List ℕ) (read : List ℕ → Num) → read (drop (length key) l) ≡ Bad → behind key read l ≡ Bad
-  unfolding behind
+  behind-bad : (key : List ℕ) (read : List ℕ → Num) → read (drop (length key) l) ≡ Bad → numBehind key read l ≡ Bad
+  unfolding numBehind
   behind-bad key read e = by (begins key l)
     where
       by : (b : Bool) → cond b (read (drop (length key) l)) Bad ≡ Bad
       by true = e
       by false = refl
 
-  count-bad : (key : List ℕ) (k : ℕ) → length key < 10 → k < 10000 → behind key (countOf k) l ≡ Bad
+  count-bad : (key : List ℕ) (k : ℕ) → length key < 10 → k < 10000 → numBehind key (countOf k) l ≡ Bad
   count-bad key k h g = let r = rest-long (length key) h in behind-bad key (countOf k) (long-count k 3 (drop (length key) l) g (omega arith))
 
-  hex-bad : (key : List ℕ) → length key < 10 → behind key hexOf l ≡ Bad
+  hex-bad : (key : List ℕ) → length key < 10 → numBehind key hexOf l ≡ Bad
   hex-bad key h = behind-bad key hexOf (no-hex (drop (length key) l) (rest-long (length key) h))
 
   fit-bad : (key : List ℕ) (n at : ℕ) (d : List Float) → length key < 10 → n ≤ 4096 → valuesFit key n at l d ≡ false
@@ -71,10 +71,10 @@ module _ (l : List ℕ) (long : 40000 ≤ length l) where
   fit-bad key n at d h g = rw (no-values (drop (length key) l) n (rest-long (length key) h) g) (and-false (begins key l))
 
   point-bad : (key : List ℕ) → length key < 10 → pointBehind key l ≡ Nowhere
-  unfolding pointBehind pointIn
+  unfolding pointBehind pointRead
   point-bad key h = by (begins key l) (no-values (drop (length key) l) 3 (rest-long (length key) h) (lit≤ tt))
     where
-      by : (b : Bool) → valuesOk (drop (length key) l) 3 ≡ false → cond b (pointIn (drop (length key) l)) Nowhere ≡ Nowhere
+      by : (b : Bool) → valuesOk (drop (length key) l) 3 ≡ false → cond b (pointRead (drop (length key) l)) Nowhere ≡ Nowhere
       by true e = rw e
       by false e = refl
 
@@ -111,8 +111,8 @@ module _ (l : List ℕ) (long : 40000 ≤ length l) where
     unfolding delaysLine bytes
     delays-bad = rw (count-bad (bytes "delays=") 4096 (lit< tt) (lit< tt))
 
-    values-bad : (key : List ℕ) (n at : ℕ) (d : List Float) → length key < 10 → n ≤ 4096 → valuesLine s key l n at d ≡ badOf s
-    unfolding valuesLine
+    values-bad : (key : List ℕ) (n at : ℕ) (d : List Float) → length key < 10 → n ≤ 4096 → valuesStep s key l n at d ≡ badOf s
+    unfolding valuesStep
     values-bad key n at d h g = rw (fit-bad key n at d h g)
 
     query-bad : queryLine s l ≡ badOf s
@@ -142,7 +142,7 @@ module _ (s : State) (l : List ℕ) (room : ℕ) (h : 40000 ≤ length l) (g : 4
   key-same (suc (suc (suc (suc (suc (suc (suc (suc zero)))))))) = delays-bad (take room l) k s ∙ sym (delays-bad l h s)
   key-same (suc (suc (suc (suc (suc (suc (suc (suc (suc i))))))))) = refl
 
-  values-same : (key : List ℕ) (n at : ℕ) (d : List Float) → length key < 10 → n ≤ 4096 → valuesLine s key (take room l) n at d ≡ valuesLine s key l n at d
+  values-same : (key : List ℕ) (n at : ℕ) (d : List Float) → length key < 10 → n ≤ 4096 → valuesStep s key (take room l) n at d ≡ valuesStep s key l n at d
   values-same key n at d a b = values-bad (take room l) k s key n at d a b ∙ sym (values-bad l h s key n at d a b)
 
   list-same : (key : List ℕ) (n at : ℕ) (d : List Float) → length key < 10 → n ≤ 4096 → valuesList key (take room l) n at d ≡ valuesList key l n at d
@@ -151,7 +151,7 @@ module _ (s : State) (l : List ℕ) (room : ℕ) (h : 40000 ≤ length l) (g : 4
   query-same : queryLine s (take room l) ≡ queryLine s l
   query-same = query-bad (take room l) k s ∙ sym (query-bad l h s)
 
-  line-same : s .n ≤ 4096 → (d : Lists) → lineOf s (take room l) d ≡ lineOf s l d
+  line-same : s .n ≤ 4096 → (d : TextLists) → lineOf s (take room l) d ≡ lineOf s l d
   unfolding lineOf keyLine bytes
   line-same n d =
       let i = s .lines - 9 in
@@ -169,7 +169,7 @@ module _ (s : State) (l : List ℕ) (room : ℕ) (h : 40000 ≤ length l) (g : 4
       )
 
 -- The first bytes of a line, 40000 or more of them, say as much as the whole line
-pub long-lines : (room : ℕ) → 40000 ≤ room → (s : State) (l : List ℕ) (d : Lists) → s .n ≤ 4096 → lineOf s (take room l) d ≡ lineOf s l d
+pub long-lines : (room : ℕ) → 40000 ≤ room → (s : State) (l : List ℕ) (d : TextLists) → s .n ≤ 4096 → lineOf s (take room l) d ≡ lineOf s l d
 long-lines room g s l d n = by (ltb room (length l)) refl
   where
     by : (b : Bool) → ltb room (length l) ≡ b → lineOf s (take room l) d ≡ lineOf s l d

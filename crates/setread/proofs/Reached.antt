@@ -13,20 +13,20 @@ use Rattle.text.specs.declared.Num.{Num}
 use Rattle.text.specs.declared.Num.the-variants.{Is, Bad}
 use Rattle.text.specs.Number.{begins, countOf, hexOf}
 use Rattle.text.specs.Values.{valueOf}
-use Rattle.keys.specs.declared.Place.{Place}
-use Rattle.keys.specs.declared.Place.the-variants.{At, Nowhere}
-use Rattle.keys.specs.Words.{bytes}
-use Rattle.keys.specs.Keys.{exactlyOf, valuesFit, behind, pointBehind}
+use Rattle.text.specs.declared.Place.{Place}
+use Rattle.text.specs.declared.Place.the-variants.{At, Nowhere}
+use Rattle.text.specs.Words.{bytes}
+use Rattle.text.specs.Keys.{exactlyOf, valuesFit, numBehind, pointBehind}
 use Rattle.settext.specs.declared.State.{State}
 use Rattle.settext.specs.declared.Step.{Step}
 use Rattle.settext.specs.declared.Step.the-variants.{Next, Complete}
-use Rattle.settext.specs.State.{startOf, numberOf, totalOf, counted, wentOf, badOf, setKind, setM, setR, setN, setDelays, setRate, setAstep, setRstep}
-use Rattle.settext.specs.Lines.{Lists, After, gives, asked, when, plain, pickAfter, posLine, irLine, delayLine, product, kindOf, keys, keyLine, formLine, kindLine, mLine, rLine, nLine, rateLine, astepLine, rstepLine, delaysLine, valuesLine, queryLine, lineOf}
+use Rattle.settext.specs.State.{startState, lineNumber, lineCount, counted, wentOf, badOf, setKind, setM, setR, setN, setDelays, setRate, setAstep, setRstep}
+use Rattle.settext.specs.Lines.{TextLists, After, gives, asked, when, afterAs, pickAfter, posLine, irLine, delayLine, product, kindOf, keys, keyLine, formLine, kindLine, mLine, rLine, nLine, rateLine, astepLine, rstepLine, delaysLine, valuesStep, queryLine, lineOf}
 use Rattle.settext.proofs.Laws.{behind-within, product-is}
-use Rattle.setread.specs.Text.{stateOf, onLine}
+use Rattle.setread.specs.Text.{stateOf, readLine}
 use Rattle.setread.specs.Kept.{Reached}
 
-pub begins-so : Reached startOf
+pub begins-so : Reached startState
 begins-so = record { taps = lit≤ tt; points = lit≤ tt; product = lit≤ tt; unread = λ h. refl; delays = lit≤ tt }
 
 abbrev Few : Step → Type 0
@@ -38,7 +38,7 @@ bad s = begins-so
 
 went : (s : State) → Reached (counted s) → Few (wentOf s)
 unfolding wentOf
-went s h = by (eqb (numberOf s) (totalOf s))
+went s h = by (eqb (lineNumber s) (lineCount s))
   where
     by : (b : Bool) → Few (cond b (Complete (counted s)) (Next (counted s)))
     by true = h
@@ -66,23 +66,23 @@ product-fits s (Is n) v e = by (leb (s .m * s .r * n) 4096) refl e
 
 module _ (s : State) (few : Reached s) (l : List ℕ) where
   next : Reached (counted s)
-  unfolding numberOf
+  unfolding lineNumber
   next = record { taps = few .taps; points = few .points; product = few .product; unread = λ h. few .unread (omega arith); delays = few .delays }
 
   key : (i : ℕ) → s .lines ≡ i → Few (getD keys i (λ s l. badOf s) s l)
-  unfolding numberOf formLine kindLine mLine rLine nLine rateLine astepLine rstepLine delaysLine
+  unfolding lineNumber formLine kindLine mLine rLine nLine rateLine astepLine rstepLine delaysLine
   key zero o = if-good (exactlyOf (bytes "form=1") l) s s next
   key (suc zero) o = if-good (begins (bytes "kind=") l) s (setKind s (kindOf (drop 5 l))) next
   key (suc (suc zero)) o =
       let z : s .n ≡ 0 = few .unread (omega arith) in
-      if-given s (setM s) (behind (bytes "m=") (countOf 256) l)
+      if-given s (setM s) (numBehind (bytes "m=") (countOf 256) l)
       (λ v e. record { taps = few .taps; points = behind-within (bytes "m=") l 256 v e; product = nothing v (s .r) (s .n) z; unread = λ h. z; delays = few .delays })
   key (suc (suc (suc zero))) o =
       let z : s .n ≡ 0 = few .unread (omega arith) in
-      if-given s (setR s) (behind (bytes "r=") (countOf 4096) l)
+      if-given s (setR s) (numBehind (bytes "r=") (countOf 4096) l)
       (λ v e. record { taps = few .taps; points = few .points; product = nothing (s .m) v (s .n) z; unread = λ h. z; delays = few .delays })
   key (suc (suc (suc (suc zero)))) o =
-      let x = behind (bytes "n=") (countOf 4096) l in
+      let x = numBehind (bytes "n=") (countOf 4096) l in
       if-given s (setN s) (product s x)
       (λ v e. record {
         taps = behind-within (bytes "n=") l 4096 v (product-is s x v e);
@@ -91,11 +91,11 @@ module _ (s : State) (few : Reached s) (l : List ℕ) where
         unread = λ h. absurd (omega arith);
         delays = few .delays;
       })
-  key (suc (suc (suc (suc (suc zero))))) o = if-given s (λ v. setRate s (valueOf v)) (behind (bytes "rate=") hexOf l) (λ v e. next)
-  key (suc (suc (suc (suc (suc (suc zero)))))) o = if-given s (λ v. setAstep s (valueOf v)) (behind (bytes "astep=") hexOf l) (λ v e. next)
-  key (suc (suc (suc (suc (suc (suc (suc zero))))))) o = if-given s (λ v. setRstep s (valueOf v)) (behind (bytes "rstep=") hexOf l) (λ v e. next)
+  key (suc (suc (suc (suc (suc zero))))) o = if-given s (λ v. setRate s (valueOf v)) (numBehind (bytes "rate=") hexOf l) (λ v e. next)
+  key (suc (suc (suc (suc (suc (suc zero)))))) o = if-given s (λ v. setAstep s (valueOf v)) (numBehind (bytes "astep=") hexOf l) (λ v e. next)
+  key (suc (suc (suc (suc (suc (suc (suc zero))))))) o = if-given s (λ v. setRstep s (valueOf v)) (numBehind (bytes "rstep=") hexOf l) (λ v e. next)
   key (suc (suc (suc (suc (suc (suc (suc (suc zero)))))))) o =
-      if-given s (setDelays s) (behind (bytes "delays=") (countOf 4096) l)
+      if-given s (setDelays s) (numBehind (bytes "delays=") (countOf 4096) l)
       (λ v e. record { taps = few .taps; points = few .points; product = few .product; unread = next .unread; delays = behind-within (bytes "delays=") l 4096 v e })
   key (suc (suc (suc (suc (suc (suc (suc (suc (suc i))))))))) o = bad s
 
@@ -108,8 +108,8 @@ module _ (s : State) (few : Reached s) (l : List ℕ) where
       by Nowhere = bad s
 
   -- the next line keeps the limits
-  pub line : (d : Lists) → Few (lineOf s l d .step)
-  unfolding lineOf keyLine valuesLine
+  pub line : (d : TextLists) → Few (lineOf s l d .step)
+  unfolding lineOf keyLine valuesStep
   line d = by (ltb (s .lines) 9) (ltb i (s .m)) (ltb j (s .m * s .r)) (ltb e (s .delays))
     where
       i : ℕ
@@ -121,15 +121,15 @@ module _ (s : State) (few : Reached s) (l : List ℕ) where
       e : ℕ
       e = j - s .m * s .r
 
-      by : (a b c f : Bool) → Few (pickAfter a (plain (keyLine s l) d) (pickAfter b (posLine s l d i) (pickAfter c (irLine s l d j) (pickAfter f (delayLine s l d e) (plain (queryLine s l) d)))) .step)
+      by : (a b c f : Bool) → Few (pickAfter a (afterAs (keyLine s l) d) (pickAfter b (posLine s l d i) (pickAfter c (irLine s l d j) (pickAfter f (delayLine s l d e) (afterAs (queryLine s l) d)))) .step)
       by true b c f = key (s .lines) refl
       by false true c f = if-good (valuesFit (bytes "pos=") 3 (3 * i) l (d .positions)) s s next
       by false false true f = if-good (valuesFit (bytes "ir=") (s .n) (j * s .n) l (d .responses)) s s next
       by false false false true = if-good (valuesFit (bytes "delay=") 1 e l (d .delays)) s s next
       by false false false false = query
 
-pub stays : (a : After) (l : List ℕ) → Reached (stateOf (a .step)) → Reached (stateOf (onLine a l .step))
-unfolding onLine
+pub stays : (a : After) (l : List ℕ) → Reached (stateOf (a .step)) → Reached (stateOf (readLine a l .step))
+unfolding readLine
 stays a l h = line (stateOf (a .step)) h l (a .lists)
 
 pub record Room (i j e m r n d : ℕ) : Type 0 where

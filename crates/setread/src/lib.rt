@@ -8,10 +8,10 @@ ghost use mathlib.Core.Path.{_≡_};
 ghost use Prim.Native.Nat.{_≤_};
 ghost use lib.ListN.{length};
 ghost use Rattle.setread.specs.Text.{startReading, stateOf, isBad, closeOf, TookSays};
-use lines::Cut;
 use settext::End;
 use settext::State;
 use settext::Step;
+use text::Cut;
 
 // What the last line was, and how many bytes of the next one are in the line buffer.
 pub struct Reading {
@@ -68,7 +68,7 @@ pub fn take_chunk(
         if is_bad(k) {
             return Reading { step: k, used: u };
         }
-        match lines::next_line(chunk, at, buf, u) {
+        match text::next_line(chunk, at, buf, u) {
             Cut::Line(next, n) => {
                 k = settext::take_line(state_of(k), &buf[..n], positions, responses, delays);
                 at = next;

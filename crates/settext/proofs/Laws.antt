@@ -15,11 +15,11 @@ use Rattle.text.specs.declared.Num.{Num}
 use Rattle.text.specs.declared.Num.the-variants.{Is, Bad}
 use Rattle.text.specs.Number.{begins, countOf}
 use Rattle.text.proofs.Reading.{count-within}
-use Rattle.keys.specs.Keys.{behind}
+use Rattle.text.specs.Keys.{numBehind}
 use Rattle.settext.specs.declared.State.{State}
 use Rattle.settext.specs.declared.Step.{Step}
 use Rattle.settext.specs.State.{badOf}
-use Rattle.settext.specs.Lines.{product, keys, keyLine, queryLine, Lists, After, posLine, irLine, delayLine, plain, lineOf}
+use Rattle.settext.specs.Lines.{product, keys, keyLine, queryLine, TextLists, After, posLine, irLine, delayLine, afterAs, lineOf}
 
 pub product16 : (a b : ℕ) → a < 65536 → b < 65536 → a * b ≤ 4294836225
 product16 a b ha hb = mul-le-mul {n₁ = a} {m₁ = b} {n₂ = 65535} {m₂ = 65535} (omega arith) (omega arith)
@@ -38,8 +38,8 @@ pub ir-fits : (j n m r : ℕ) → j < m * r → Fits w16 m → Fits w16 r → Fi
 ir-fits j n m r h a b d = let p = product16 m r (omega arith) (omega arith) in omega (arith, product48 j n (omega arith) (omega arith))
 
 -- a decimal behind a key is at most its limit
-pub behind-within : (key l : List ℕ) (k v : ℕ) → behind key (countOf k) l ≡ Is v → v ≤ k
-unfolding behind
+pub behind-within : (key l : List ℕ) (k v : ℕ) → numBehind key (countOf k) l ≡ Is v → v ≤ k
+unfolding numBehind
 behind-within key l k v e = by (begins key l) e
   where
     by : (b : Bool) → cond b (countOf k (drop (length key) l)) Bad ≡ Is v → v ≤ k
@@ -61,11 +61,11 @@ pub past-keys : (s : State) (l : List ℕ) → 9 ≤ s .lines → keyLine s l �
 unfolding keyLine
 past-keys s l h = ap (λ (f : State → List ℕ → Step). f s l) (List·getD-eq-default keys (λ s l. badOf s) h)
 
-abbrev pub listed : List Float → List Float → List Float → Lists
+abbrev pub listed : List Float → List Float → List Float → TextLists
 listed p r d = record { positions = p; responses = r; delays = d }
 
 abbrev pub made : Step → List Float → List Float → List Float → After
-made t p r d = plain t (listed p r d)
+made t p r d = afterAs t (listed p r d)
 
 pub same : {t t′ : Step} {p p′ r r′ d d′ : List Float} → t ≡ t′ → p ≡ p′ → r ≡ r′ → d ≡ d′ → made t p r d ≡ made t′ p′ r′ d′
 same {t} {t′} {p} {p′} {r} {r′} {d} {d′} a b c e =
@@ -80,8 +80,8 @@ pub up : {k : ℕ} (n : ℕ) → n ≤ k → (k ≡ n → ⊥) → n + 1 ≤ k
 up n h e = omega arith
 
 -- which line is wanted, by how many were read
-module _ (s : State) (l : List ℕ) (d : Lists) where
-  pub a-key : s .lines < 9 → lineOf s l d ≡ plain (keyLine s l) d
+module _ (s : State) (l : List ℕ) (d : TextLists) where
+  pub a-key : s .lines < 9 → lineOf s l d ≡ afterAs (keyLine s l) d
   unfolding lineOf
   a-key h = rw (lt-ltb _ _ h)
 
@@ -99,6 +99,6 @@ module _ (s : State) (l : List ℕ) (d : Lists) where
   a-delay h i j k = rw (le-ltb _ _ h, le-ltb _ _ i, le-ltb _ _ j, lt-ltb _ _ k)
 
   pub a-query : 9 ≤ s .lines → s .m ≤ s .lines - 9 → s .m * s .r ≤ s .lines - 9 - s .m → s .delays ≤ s .lines - 9 - s .m - s .m * s .r
-      → lineOf s l d ≡ plain (queryLine s l) d
+      → lineOf s l d ≡ afterAs (queryLine s l) d
   unfolding lineOf
   a-query h i j k = rw (le-ltb _ _ h, le-ltb _ _ i, le-ltb _ _ j, le-ltb _ _ k)

@@ -10,16 +10,16 @@ use Rattle.text.specs.declared.Num.{Num}
 use Rattle.text.specs.declared.Num.the-variants.{Is, Bad}
 use Rattle.text.specs.Number.{begins, countOf, hexOf}
 use Rattle.text.specs.Values.{valueOf, stored}
-use Rattle.keys.specs.declared.Place.{Place}
-use Rattle.keys.specs.declared.Place.the-variants.{At, Nowhere}
-use Rattle.keys.specs.Words.{bytes}
-use Rattle.keys.specs.Keys.{exactlyOf, behind, valuesFit, pointBehind}
+use Rattle.text.specs.declared.Place.{Place}
+use Rattle.text.specs.declared.Place.the-variants.{At, Nowhere}
+use Rattle.text.specs.Words.{bytes}
+use Rattle.text.specs.Keys.{exactlyOf, numBehind, valuesFit, pointBehind}
 use Rattle.settext.specs.declared.State.{State}
 use Rattle.settext.specs.declared.Step.{Step}
 use Rattle.settext.specs.declared.Step.the-variants.{Query}
 use Rattle.settext.specs.declared.End.{End}
 use Rattle.settext.specs.declared.End.the-variants.{Fine, Cut}
-use Rattle.settext.specs.State.{keyCount, numberOf, totalOf, counted, wentOf, badOf, setKind, setM, setR, setN, setDelays, setRate, setAstep, setRstep}
+use Rattle.settext.specs.State.{keyCount, lineNumber, lineCount, counted, wentOf, badOf, setKind, setM, setR, setN, setDelays, setRate, setAstep, setRstep}
 
 -- ---- the keys
 
@@ -47,25 +47,25 @@ unfoldable pub kindLine : State → List ℕ → Step
 kindLine s l = when (begins (bytes "kind=") l) s (setKind s (kindOf (drop 5 l)))
 
 unfoldable pub mLine : State → List ℕ → Step
-mLine s l = gives s (setM s) (behind (bytes "m=") (countOf 256) l)
+mLine s l = gives s (setM s) (numBehind (bytes "m=") (countOf 256) l)
 
 unfoldable pub rLine : State → List ℕ → Step
-rLine s l = gives s (setR s) (behind (bytes "r=") (countOf 4096) l)
+rLine s l = gives s (setR s) (numBehind (bytes "r=") (countOf 4096) l)
 
 unfoldable pub nLine : State → List ℕ → Step
-nLine s l = gives s (setN s) (product s (behind (bytes "n=") (countOf 4096) l))
+nLine s l = gives s (setN s) (product s (numBehind (bytes "n=") (countOf 4096) l))
 
 unfoldable pub rateLine : State → List ℕ → Step
-rateLine s l = gives s (λ v. setRate s (valueOf v)) (behind (bytes "rate=") hexOf l)
+rateLine s l = gives s (λ v. setRate s (valueOf v)) (numBehind (bytes "rate=") hexOf l)
 
 unfoldable pub astepLine : State → List ℕ → Step
-astepLine s l = gives s (λ v. setAstep s (valueOf v)) (behind (bytes "astep=") hexOf l)
+astepLine s l = gives s (λ v. setAstep s (valueOf v)) (numBehind (bytes "astep=") hexOf l)
 
 unfoldable pub rstepLine : State → List ℕ → Step
-rstepLine s l = gives s (λ v. setRstep s (valueOf v)) (behind (bytes "rstep=") hexOf l)
+rstepLine s l = gives s (λ v. setRstep s (valueOf v)) (numBehind (bytes "rstep=") hexOf l)
 
 unfoldable pub delaysLine : State → List ℕ → Step
-delaysLine s l = gives s (setDelays s) (behind (bytes "delays=") (countOf 4096) l)
+delaysLine s l = gives s (setDelays s) (numBehind (bytes "delays=") (countOf 4096) l)
 
 -- the keys in their order
 abbrev pub keys : List (State → List ℕ → Step)
@@ -77,18 +77,18 @@ keyLine s l = getD keys (s .lines) (λ s l. badOf s) s l
 -- ---- the set and the queries
 
 -- the numbers of the set
-pub record Lists : Type 0 where
+pub record TextLists : Type 0 where
   pub positions : List Float
   pub responses : List Float
   pub delays : List Float
 
 pub record After : Type 0 where
   pub step : Step
-  pub lists : Lists
+  pub lists : TextLists
 
 -- n values behind a key that go to place `at` of a list: the step, and the list afterwards. A malformed line writes nothing
-unfoldable pub valuesLine : State → List ℕ → List ℕ → ℕ → ℕ → List Float → Step
-valuesLine s key l n at d = when (valuesFit key n at l d) s s
+unfoldable pub valuesStep : State → List ℕ → List ℕ → ℕ → ℕ → List Float → Step
+valuesStep s key l n at d = when (valuesFit key n at l d) s s
 
 unfoldable pub valuesList : List ℕ → List ℕ → ℕ → ℕ → List Float → List Float
 valuesList key l n at d = stored (valuesFit key n at l d) (drop (length key) l) n at d
@@ -100,41 +100,41 @@ asked s Nowhere = badOf s
 unfoldable pub queryLine : State → List ℕ → Step
 queryLine s l = asked s (pointBehind (bytes "query=") l)
 
-abbrev pub posLine : State → List ℕ → Lists → ℕ → After
+abbrev pub posLine : State → List ℕ → TextLists → ℕ → After
 posLine s l d i = record {
-  step = valuesLine s (bytes "pos=") l 3 (3 * i) (d .positions);
+  step = valuesStep s (bytes "pos=") l 3 (3 * i) (d .positions);
   lists = record { positions = valuesList (bytes "pos=") l 3 (3 * i) (d .positions); responses = d .responses; delays = d .delays };
 }
 
-abbrev pub irLine : State → List ℕ → Lists → ℕ → After
+abbrev pub irLine : State → List ℕ → TextLists → ℕ → After
 irLine s l d i = record {
-  step = valuesLine s (bytes "ir=") l (s .n) (i * s .n) (d .responses);
+  step = valuesStep s (bytes "ir=") l (s .n) (i * s .n) (d .responses);
   lists = record { positions = d .positions; responses = valuesList (bytes "ir=") l (s .n) (i * s .n) (d .responses); delays = d .delays };
 }
 
-abbrev pub delayLine : State → List ℕ → Lists → ℕ → After
+abbrev pub delayLine : State → List ℕ → TextLists → ℕ → After
 delayLine s l d i = record {
-  step = valuesLine s (bytes "delay=") l 1 i (d .delays);
+  step = valuesStep s (bytes "delay=") l 1 i (d .delays);
   lists = record { positions = d .positions; responses = d .responses; delays = valuesList (bytes "delay=") l 1 i (d .delays) };
 }
 
-abbrev pub plain : Step → Lists → After
-plain t d = record { step = t; lists = d }
+abbrev pub afterAs : Step → TextLists → After
+afterAs t d = record { step = t; lists = d }
 
 abbrev pub pickAfter : Bool → After → After → After
 pickAfter b x y = cond b x y
 
 -- One line: the nine keys, m `pos` lines, m·r `ir` lines of n values, `delays` delay lines, then queries
-unfoldable pub lineOf : State → List ℕ → Lists → After
+unfoldable pub lineOf : State → List ℕ → TextLists → After
 lineOf s l d =
-    pickAfter (ltb (s .lines) keyCount) (plain (keyLine s l) d)
+    pickAfter (ltb (s .lines) keyCount) (afterAs (keyLine s l) d)
     (pickAfter (ltb (s .lines - keyCount) (s .m)) (posLine s l d (s .lines - keyCount))
     (pickAfter (ltb (s .lines - keyCount - s .m) (s .m * s .r)) (irLine s l d (s .lines - keyCount - s .m))
     (pickAfter (ltb (s .lines - keyCount - s .m - s .m * s .r) (s .delays)) (delayLine s l d (s .lines - keyCount - s .m - s .m * s .r))
-    (plain (queryLine s l) d))))
+    (afterAs (queryLine s l) d))))
 
 -- ---- the end
 
 -- the text may end after the set's last line or a query, with nothing after the last newline
 unfoldable pub endOf : State → List ℕ → End
-endOf s rest = cond (ltb (s .lines) (totalOf s) || not (eqb (length rest) 0)) (Cut (numberOf s)) Fine
+endOf s rest = cond (ltb (s .lines) (lineCount s) || not (eqb (length rest) 0)) (Cut (lineNumber s)) Fine

@@ -9,20 +9,20 @@ use Rattle.settext.specs.declared.Step.{Step}
 use Rattle.settext.specs.declared.Step.the-variants.{Next, Complete, Malformed}
 
 -- before the first line
-abbrev pub startOf : State
-startOf = record { lines = 0; kind = 255; m = 0; r = 0; n = 0; delays = 0; rate = zero32; astep = zero32; rstep = zero32 }
+abbrev pub startState : State
+startState = record { lines = 0; kind = 255; m = 0; r = 0; n = 0; delays = 0; rate = zero32; astep = zero32; rstep = zero32 }
 
 -- the number of the line that comes next, from 1. It stays at 2^64 - 1, more lines than can come
-unfoldable pub numberOf : State → ℕ
-numberOf s = min (s .lines + 1) 18446744073709551615
+unfoldable pub lineNumber : State → ℕ
+lineNumber s = min (s .lines + 1) 18446744073709551615
 
 -- how many keys there are
 abbrev pub keyCount : ℕ
 keyCount = 9
 
 -- how many lines the set takes: the keys, then the `pos`, `ir` and `delay` lines
-unfoldable pub totalOf : State → ℕ
-totalOf s = keyCount + s .m + s .m * s .r + s .delays
+unfoldable pub lineCount : State → ℕ
+lineCount s = keyCount + s .m + s .m * s .r + s .delays
 
 abbrev pub setLines : State → ℕ → State
 setLines s v = record { lines = v; kind = s .kind; m = s .m; r = s .r; n = s .n; delays = s .delays; rate = s .rate; astep = s .astep; rstep = s .rstep }
@@ -53,11 +53,11 @@ setRstep s v = record { lines = s .lines; kind = s .kind; m = s .m; r = s .r; n 
 
 -- the line is counted
 abbrev pub counted : State → State
-counted s = setLines s (numberOf s)
+counted s = setLines s (lineNumber s)
 
 -- a line of the set was well formed: it may be the set's last
 unfoldable pub wentOf : State → Step
-wentOf s = cond (eqb (numberOf s) (totalOf s)) (Complete (counted s)) (Next (counted s))
+wentOf s = cond (eqb (lineNumber s) (lineCount s)) (Complete (counted s)) (Next (counted s))
 
 unfoldable pub badOf : State → Step
-badOf s = Malformed (numberOf s)
+badOf s = Malformed (lineNumber s)

@@ -3,11 +3,11 @@
 // `take_line` equals `lineOf` (specs/Lines.antt), which says what each line makes of the state and of the three lists; `at_end` equals
 // `endOf`. Which line is wanted follows from how many were read, since each of them was well formed; the next one's number is K of a form error.
 ghost use mathlib.Core.Path.{_≡_};
-ghost use Rattle.settext.specs.State.{startOf, numberOf, totalOf, wentOf, badOf};
-ghost use Rattle.settext.specs.Lines.{kindOf, product, formLine, kindLine, mLine, rLine, nLine, rateLine, astepLine, rstepLine, delaysLine, keyLine, valuesLine, valuesList, queryLine, After, lineOf, endOf};
-use keys::Place;
+ghost use Rattle.settext.specs.State.{startState, lineNumber, lineCount, wentOf, badOf};
+ghost use Rattle.settext.specs.Lines.{kindOf, product, formLine, kindLine, mLine, rLine, nLine, rateLine, astepLine, rstepLine, delaysLine, keyLine, valuesStep, valuesList, queryLine, After, lineOf, endOf};
 use points::Point3;
 use text::Num;
+use text::Place;
 
 // Between two lines: how many were read, all well formed, and what the keys said. The counts are small enough that no product of them wraps.
 pub struct State {
@@ -37,7 +37,7 @@ pub enum End {
 }
 
 pub fn start() -> State
-    ensures { λ r. ⌜ r ≡ startOf ⌝ }
+    ensures { λ r. ⌜ r ≡ startState ⌝ }
 {
     State {
         lines: 0,
@@ -53,7 +53,7 @@ pub fn start() -> State
 }
 
 fn number(s: State) -> usize
-    ensures { λ r. ⌜ r ≡ numberOf s ⌝ }
+    ensures { λ r. ⌜ r ≡ lineNumber s ⌝ }
 {
     if s.lines < 0xffff_ffff_ffff_ffff {
         s.lines + 1
@@ -63,7 +63,7 @@ fn number(s: State) -> usize
 }
 
 fn total(s: State) -> usize
-    ensures { λ r. ⌜ r ≡ totalOf s ⌝ }
+    ensures { λ r. ⌜ r ≡ lineCount s ⌝ }
 {
     let m = s.m as usize;
     9 + m + m * (s.r as usize) + s.delays as usize
@@ -91,10 +91,10 @@ fn malformed(s: State) -> Step
 fn kind_of(word: &[u8]) -> u32
     ensures { λ r. ⌜ r ≡ kindOf (now (word .entry)) ⌝ }
 {
-    if keys::exactly(b"cartesian", word) {
+    if text::exactly(b"cartesian", word) {
         return 0;
     }
-    if keys::exactly(b"spherical", word) {
+    if text::exactly(b"spherical", word) {
         return 1;
     }
     255
@@ -103,7 +103,7 @@ fn kind_of(word: &[u8]) -> u32
 fn form_line(s: State, line: &[u8]) -> Step
     ensures { λ r. ⌜ r ≡ formLine s (now (line .entry)) ⌝ }
 {
-    if keys::exactly(b"form=1", line) {
+    if text::exactly(b"form=1", line) {
         return went(s);
     }
     malformed(s)
@@ -123,7 +123,7 @@ fn kind_line(s: State, line: &[u8]) -> Step
 fn m_line(s: State, line: &[u8]) -> Step
     ensures { λ r. ⌜ r ≡ mLine s (now (line .entry)) ⌝ }
 {
-    let v = keys::count_behind(b"m=", line, 256);
+    let v = text::count_behind(b"m=", line, 256);
     let Num::Is(m) = v else {
         return malformed(s);
     };
@@ -135,7 +135,7 @@ fn m_line(s: State, line: &[u8]) -> Step
 fn r_line(s: State, line: &[u8]) -> Step
     ensures { λ r. ⌜ r ≡ rLine s (now (line .entry)) ⌝ }
 {
-    let v = keys::count_behind(b"r=", line, 4096);
+    let v = text::count_behind(b"r=", line, 4096);
     let Num::Is(r) = v else {
         return malformed(s);
     };
@@ -160,7 +160,7 @@ fn product_ok(s: State, v: Num) -> Num
 fn n_line(s: State, line: &[u8]) -> Step
     ensures { λ r. ⌜ r ≡ nLine s (now (line .entry)) ⌝ }
 {
-    let v = product_ok(s, keys::count_behind(b"n=", line, 4096));
+    let v = product_ok(s, text::count_behind(b"n=", line, 4096));
     let Num::Is(n) = v else {
         return malformed(s);
     };
@@ -172,7 +172,7 @@ fn n_line(s: State, line: &[u8]) -> Step
 fn rate_line(s: State, line: &[u8]) -> Step
     ensures { λ r. ⌜ r ≡ rateLine s (now (line .entry)) ⌝ }
 {
-    let v = keys::hex_behind(b"rate=", line);
+    let v = text::hex_behind(b"rate=", line);
     let Num::Is(bits) = v else {
         return malformed(s);
     };
@@ -184,7 +184,7 @@ fn rate_line(s: State, line: &[u8]) -> Step
 fn astep_line(s: State, line: &[u8]) -> Step
     ensures { λ r. ⌜ r ≡ astepLine s (now (line .entry)) ⌝ }
 {
-    let v = keys::hex_behind(b"astep=", line);
+    let v = text::hex_behind(b"astep=", line);
     let Num::Is(bits) = v else {
         return malformed(s);
     };
@@ -196,7 +196,7 @@ fn astep_line(s: State, line: &[u8]) -> Step
 fn rstep_line(s: State, line: &[u8]) -> Step
     ensures { λ r. ⌜ r ≡ rstepLine s (now (line .entry)) ⌝ }
 {
-    let v = keys::hex_behind(b"rstep=", line);
+    let v = text::hex_behind(b"rstep=", line);
     let Num::Is(bits) = v else {
         return malformed(s);
     };
@@ -208,7 +208,7 @@ fn rstep_line(s: State, line: &[u8]) -> Step
 fn delays_line(s: State, line: &[u8]) -> Step
     ensures { λ r. ⌜ r ≡ delaysLine s (now (line .entry)) ⌝ }
 {
-    let v = keys::count_behind(b"delays=", line, 4096);
+    let v = text::count_behind(b"delays=", line, 4096);
     let Num::Is(d) = v else {
         return malformed(s);
     };
@@ -237,9 +237,9 @@ fn key_line(s: State, line: &[u8]) -> Step
 
 // A line of n values for place `at` of a list.
 fn values_line(s: State, key: &[u8], line: &[u8], n: usize, out: &mut [f32], at: usize) -> Step
-    ensures { λ r. ⌜ (r ≡ valuesLine s (now (key .entry)) (now (line .entry)) n at (now (out .entry))) × (now (out .exit) ≡ valuesList (now (key .entry)) (now (line .entry)) n at (now (out .entry))) ⌝ }
+    ensures { λ r. ⌜ (r ≡ valuesStep s (now (key .entry)) (now (line .entry)) n at (now (out .entry))) × (now (out .exit) ≡ valuesList (now (key .entry)) (now (line .entry)) n at (now (out .entry))) ⌝ }
 {
-    if keys::values_behind(key, line, n, out, at) {
+    if text::values_behind(key, line, n, out, at) {
         return went(s);
     }
     malformed(s)
@@ -248,7 +248,7 @@ fn values_line(s: State, key: &[u8], line: &[u8], n: usize, out: &mut [f32], at:
 fn query_line(s: State, line: &[u8]) -> Step
     ensures { λ r. ⌜ r ≡ queryLine s (now (line .entry)) ⌝ }
 {
-    let q = keys::point_behind(b"query=", line);
+    let q = text::point_behind(b"query=", line);
     let Place::At(p) = q else {
         return malformed(s);
     };

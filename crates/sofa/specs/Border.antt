@@ -8,9 +8,9 @@ use Rattle.angles.specs.declared.Answer.the-variants.{Value, Refused}
 use Rattle.sofa.specs.declared.SofaValue.{SofaValue}
 
 -- a value has reason 0 and place 0; a refusal has its number and place, and +0 for a value
-abbrev pub valueOf : Answer → SofaValue
-valueOf (Value v) = record { reason = 0; place = 0; value = v }
-valueOf (Refused n p) = record { reason = n; place = p; value = fin false 0 (pos 0) }
+abbrev pub valueAs : Answer → SofaValue
+valueAs (Value v) = record { reason = 0; place = 0; value = v }
+valueAs (Refused n p) = record { reason = n; place = p; value = fin false 0 (pos 0) }
 
 -- version 0.1.0: 65536 times the first part, 256 times the second, and the third
 abbrev pub versionNumber : ℕ

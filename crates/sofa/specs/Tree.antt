@@ -36,11 +36,11 @@ pub record Left : Type 0 where
 abbrev pub leftBy : SofaInserted → Lists → Left
 leftBy o a = record { out = o; lists = a }
 
-abbrev pub told : Stored → Left
-told s = record { out = insertedAs (s .out); lists = s .lists }
+abbrev pub insertTold : Stored → Left
+insertTold s = record { out = insertedAs (s .out); lists = s .lists }
 
 abbrev pub insertSays : Lists → ℕ → BoundingBox → Float → Float → Float → ℕ → Left
-insertSays a c b x y z number = told (insertOf a c b (point x y z) number)
+insertSays a c b x y z number = insertTold (insertOf a c b (point x y z) number)
 
 abbrev pub nearestSays : Lists → ℕ → BoundingBox → Float → Float → Float → SofaFound
 nearestSays a c b x y z = foundAs (nearestOf a c b (point x y z))

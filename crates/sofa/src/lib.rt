@@ -10,7 +10,7 @@
 ghost use mathlib.Core.Path.{_≡_};
 ghost use Rattle.root.specs.Root.{rootOf};
 ghost use Rattle.angles.specs.Says.{sineSays, cosineSays, arctanSays};
-ghost use Rattle.sofa.specs.Border.{valueOf, versionNumber};
+ghost use Rattle.sofa.specs.Border.{valueAs, versionNumber};
 use angles::Answer;
 
 pub mod convert;
@@ -32,7 +32,7 @@ pub struct SofaValue {
 }
 
 fn told(a: Answer) -> SofaValue
-    ensures { λ r. ⌜ r ≡ valueOf a ⌝ }
+    ensures { λ r. ⌜ r ≡ valueAs a ⌝ }
 {
     match a {
         Answer::Value(v) => SofaValue {
@@ -57,21 +57,21 @@ pub extern "C" fn sofa_root(x: f32) -> f32
 
 #[no_mangle]
 pub extern "C" fn sofa_sine(x: f32) -> SofaValue
-    ensures { λ r. ⌜ r ≡ valueOf (sineSays x) ⌝ }
+    ensures { λ r. ⌜ r ≡ valueAs (sineSays x) ⌝ }
 {
     told(angles::sine(x))
 }
 
 #[no_mangle]
 pub extern "C" fn sofa_cosine(x: f32) -> SofaValue
-    ensures { λ r. ⌜ r ≡ valueOf (cosineSays x) ⌝ }
+    ensures { λ r. ⌜ r ≡ valueAs (cosineSays x) ⌝ }
 {
     told(angles::cosine(x))
 }
 
 #[no_mangle]
 pub extern "C" fn sofa_arctangent(y: f32, x: f32) -> SofaValue
-    ensures { λ r. ⌜ r ≡ valueOf (arctanSays y x) ⌝ }
+    ensures { λ r. ⌜ r ≡ valueAs (arctanSays y x) ⌝ }
 {
     told(angles::arctangent(y, x))
 }

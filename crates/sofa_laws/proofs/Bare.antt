@@ -21,17 +21,17 @@ use Rattle.kdtree.specs.declared.Named.the-variants.{Number}
 use Rattle.kdtree.specs.Geometry.{boxAt}
 use Rattle.kdtree.specs.Insert.{Lists, Stored, storedAs, treeOf, slotIn, written, hasRoom, noRoom, bySlot, insertOf}
 use Rattle.kdtree.specs.Nearest.{nearestOf}
-use Rattle.walks.specs.Demand3.{Numbered, Nearer, SomeNan, Reordered, Bare, empty, kept, insertInto, fill, RoomFor, nearestIn, Alone}
-use Rattle.walks.proofs.Lists.{each-reordered, in-reordered}
-use Rattle.walks.proofs.Demand3 as walks
-use Rattle.walks.proofs.Demand3.{both-orders}
+use Rattle.kdtree_laws.specs.Demand3.{Numbered, Nearer, SomeNan, Reordered, Bare, empty, kept, insertInto, fill, RoomFor, nearestIn, Alone}
+use Rattle.kdtree_laws.proofs.Lists.{each-reordered, in-reordered}
+use Rattle.kdtree_laws.proofs.Demand3 as walks
+use Rattle.kdtree_laws.proofs.Demand3.{both-orders}
 use Rattle.source.specs.Rust.{Option, None, Some}
 use Rattle.source.specs.Kdtree.{newTree, nearest}
 use Rattle.source_laws.specs.Bare as source
 use Rattle.source_laws.specs.Bare.{inserted, SameTree}
 use Rattle.source_laws.proofs.Bare.{bare}
 use Rattle.sofa.specs.declared.tree.SofaFound.{SofaFound}
-use Rattle.sofa.specs.Tree.{Left, insertedAs, foundAs, point, leftBy, told}
+use Rattle.sofa.specs.Tree.{Left, insertedAs, foundAs, point, leftBy, insertTold}
 use Rattle.sofa_laws.specs.Bare.{storedIn, goneOn, InsertCall, Inserts, none, more, NearestCall, nameHeard, BareHeard, Demand3Heard}
 
 -- ---- a refused insert has a number above 0 and writes nothing
@@ -72,10 +72,10 @@ gone-on (Done b) l t k = refl
 gone-on (Refused n p) l t k = rw (ne-eqb n 0 (λ z. let h = k .0 in omega arith)) (λ i. record { lists = k .1 i; count = t .count; bounds = t .bounds })
 
 module _ (m : Numbered) (t t' : Bare) (I : InsertCall m t t') where
-  insert-says : leftBy (I .r) (storedIn (I .κs) (I .e)) ≡ told (insertInto t m)
+  insert-says : leftBy (I .r) (storedIn (I .κs) (I .e)) ≡ insertTold (insertInto t m)
   insert-says =
       let G = I .given in
-      I .contract ∙ (λ i. told (insertOf (G .lists i) (G .count i) (G .bounds i) (point (G .x i) (G .y i) (G .z i)) (G .number i)))
+      I .contract ∙ (λ i. insertTold (insertOf (G .lists i) (G .count i) (G .bounds i) (point (G .x i) (G .y i) (G .z i)) (G .number i)))
 
   -- WHAT IT ANSWERS is what `insertInto` says
   pub insert-told : I .r ≡ insertedAs (insertInto t m .out)

@@ -11,14 +11,14 @@ use Rattle.points.specs.declared.Point3.{Point3}
 use Rattle.points.specs.Points.{Finite}
 use Rattle.limits.specs.declared.Verdict.{Verdict}
 use Rattle.limits.specs.declared.Verdict.the-variants as verdict
-use Rattle.limits.specs.Refusals.{Check, pick, verdictOf, reasonOf, placeOf}
+use Rattle.limits.specs.Refusals.{Check, pickVerdict, verdictOf, reasonOf, placeOf}
 use Rattle.lookup.specs.declared.Lookup.{Lookup}
 use Rattle.lookup.specs.Lookup.{findOf, findMutOf}
 use Rattle.mix.specs.Mix.{startOf}
 use Rattle.mix.proofs.Laws.{inside}
 use Rattle.stored.specs.declared.Part.{Part}
 use Rattle.stored.specs.declared.Part.the-variants.{Taps}
-use Rattle.stored.specs.Numbers.{partBy, partOf, within, responseOf, aroundOf}
+use Rattle.stored.specs.Numbers.{partBy, partOf, tapsIn, responseOf, aroundOf}
 use Rattle.stored.specs.Longest.{maxDelayOf}
 use Rattle.reader.specs.Queries.{filterSays, plainSays, numberSays}
 use Rattle.loads.specs.declared.Loaded.{Loaded}
@@ -47,8 +47,8 @@ use Rattle.sofa_laws.specs.Host.{heardBy, PartHeard, HearsSource, LoadHe
 
 -- ---- no line of the table has the number 0
 
-one-of : (b : Bool) (n p : ℕ) (v : Verdict) → 0 < n → (reasonOf v ≡ 0 → v ≡ verdict.Fine) → reasonOf (pick b (verdict.Refused n p) v) ≡ 0 → pick b (verdict.Refused n p) v ≡ verdict.Fine
-unfolding pick
+one-of : (b : Bool) (n p : ℕ) (v : Verdict) → 0 < n → (reasonOf v ≡ 0 → v ≡ verdict.Fine) → reasonOf (pickVerdict b (verdict.Refused n p) v) ≡ 0 → pickVerdict b (verdict.Refused n p) v ≡ verdict.Fine
+unfolding pickVerdict
 one-of true n p v h f e = absurd (omega arith)
 one-of false n p v h f e = f e
 
@@ -87,10 +87,10 @@ heard-as : (way : Way) (f : source.Filter) → filterTold (told way f) ≡ heard
 heard-as exactly f = refl
 heard-as (blending l) f = refl
 
-part-heard : (xs : List Float) (s n : ℕ) (taps : List Float) (t : Part) (p : SofaPart) → t ≡ Taps s n → s + n ≤ length xs → within t xs ≡ taps → p ≡ partAs t → PartHeard xs n taps p
-unfolding within
+part-heard : (xs : List Float) (s n : ℕ) (taps : List Float) (t : Part) (p : SofaPart) → t ≡ Taps s n → s + n ≤ length xs → tapsIn t xs ≡ taps → p ≡ partAs t → PartHeard xs n taps p
+unfolding tapsIn
 part-heard xs s n taps t p et h held e =
-    subst (PartHeard xs n taps) (sym (e ∙ ap partAs et)) (record { reason = refl; place = refl; count = refl; within = h; held = ap (λ (u : Part). within u xs) (sym et) ∙ held })
+    subst (PartHeard xs n taps) (sym (e ∙ ap partAs et)) (record { reason = refl; place = refl; count = refl; within = h; held = ap (λ (u : Part). tapsIn u xs) (sym et) ∙ held })
 
 -- of a measurement of a loaded set, by its ear
 module _ (g : Given) (fine : judged g ≡ verdict.Fine) (k : ℕ) (h : k < g .sizes .m) where

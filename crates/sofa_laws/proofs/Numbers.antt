@@ -15,7 +15,7 @@ use Rattle.angles.specs.Arc.{arctanSteps}
 use Rattle.angles.specs.declared.Answer.{Answer}
 use Rattle.angles.specs.declared.Answer.the-variants.{Value, Refused}
 use Rattle.angles.specs.Says.{sineSays, cosineSays, arctanSays}
-use Rattle.angle_laws.specs.Angle.{Ratio, within}
+use Rattle.angle_laws.specs.Angle.{Ratio, closeTo}
 use Rattle.angle_laws.specs.Asked.{Arctan}
 use Rattle.angle_laws.proofs.Near.{sine-near, cosine-near}
 use Rattle.angle_laws.proofs.Zero.{arctan-good}
@@ -30,7 +30,7 @@ use Rattle.source_laws.proofs.Turns.{turns}
 use Rattle.load_laws.proofs.Domain.{values-allowed}
 use Rattle.sofa.specs.declared.SofaValue.{SofaValue}
 use Rattle.sofa.specs.declared.convert.SofaRefusal.{SofaRefusal}
-use Rattle.sofa.specs.Border.{valueOf}
+use Rattle.sofa.specs.Border.{valueAs}
 use Rattle.sofa.specs.Convert.{Turned, turnedBy, turnSays}
 use Rattle.sofa_laws.specs.Numbers.{RootHeard, notAllowed, NearHeard, ArctangentHeard, TurnHeard, NumbersHeard}
 use Rattle.sofa_laws.proofs.Host.{unrefused}
@@ -54,30 +54,30 @@ root-heard x r says fit = subst (RootHeard x) (sym says) (record {
 abbrev sayBy : Bool → Float → ℕ → Answer
 sayBy b v place = cond b (Value v) (Refused 7 place)
 
-value-is : (b : Bool) (x : Float) (v : SofaValue) (place : ℕ) → v ≡ valueOf (sayBy b x place) → T b → v ≡ record { reason = 0; place = 0; value = x }
+value-is : (b : Bool) (x : Float) (v : SofaValue) (place : ℕ) → v ≡ valueAs (sayBy b x place) → T b → v ≡ record { reason = 0; place = 0; value = x }
 value-is true x v place e h = e
 value-is false x v place e h = absurd h
 
-refused-is : (b : Bool) (x : Float) (v : SofaValue) (place : ℕ) → v ≡ valueOf (sayBy b x place) → b ≡ false → v ≡ notAllowed place
-refused-is b x v place e h = e ∙ ap (λ (c : Bool). valueOf (sayBy c x place)) h
+refused-is : (b : Bool) (x : Float) (v : SofaValue) (place : ℕ) → v ≡ valueAs (sayBy b x place) → b ≡ false → v ≡ notAllowed place
+refused-is b x v place e h = e ∙ ap (λ (c : Bool). valueAs (sayBy c x place)) h
 
-near-heard : (x y : Float) (ρ : Ratio) (v : SofaValue) → v ≡ valueOf (sayBy (inRange x) y 0) → (T (inRange x) → within 1048576 y ρ) → NearHeard x ρ v
+near-heard : (x y : Float) (ρ : Ratio) (v : SofaValue) → v ≡ valueAs (sayBy (inRange x) y 0) → (T (inRange x) → closeTo 1048576 y ρ) → NearHeard x ρ v
 near-heard x y ρ v says near = record {
   told = λ h. ap (λ (u : SofaValue). u .reason) (value-is (inRange x) y v 0 says h);
-  near = λ h. subst (λ (u : SofaValue). within 1048576 (u .value) ρ) (sym (value-is (inRange x) y v 0 says h)) (near h);
+  near = λ h. subst (λ (u : SofaValue). closeTo 1048576 (u .value) ρ) (sym (value-is (inRange x) y v 0 says h)) (near h);
   refused = refused-is (inRange x) y v 0 says;
 }
 
-arctangent-heard : (y x : Float) (v : SofaValue) → v ≡ valueOf (arctanSays y x) → ArctangentHeard y x v
+arctangent-heard : (y x : Float) (v : SofaValue) → v ≡ valueAs (arctanSays y x) → ArctangentHeard y x v
 unfolding arctanSays
 arctangent-heard y x v says = record {
   told = λ h. ap (λ (u : SofaValue). u .reason) (is (finite y) (finite x) says h);
   asked = λ h. subst (λ (u : SofaValue). Arctan y x (u .value)) (sym (is (finite y) (finite x) says h)) (arctan-good y x h);
-  refused-y = λ h. says ∙ ap (λ (b : Bool). valueOf (cond b (sayBy (finite x) (arctanSteps y x) 1) (Refused 7 0))) h;
-  refused-x = λ h k. says ∙ ap (λ (b : Bool). valueOf (cond b (sayBy (finite x) (arctanSteps y x) 1) (Refused 7 0))) h ∙ ap (λ (b : Bool). valueOf (sayBy b (arctanSteps y x) 1)) k;
+  refused-y = λ h. says ∙ ap (λ (b : Bool). valueAs (cond b (sayBy (finite x) (arctanSteps y x) 1) (Refused 7 0))) h;
+  refused-x = λ h k. says ∙ ap (λ (b : Bool). valueAs (cond b (sayBy (finite x) (arctanSteps y x) 1) (Refused 7 0))) h ∙ ap (λ (b : Bool). valueAs (sayBy b (arctanSteps y x) 1)) k;
 }
   where
-    is : (b c : Bool) → v ≡ valueOf (cond b (sayBy c (arctanSteps y x) 1) (Refused 7 0)) → T (b && c) → v ≡ record { reason = 0; place = 0; value = arctanSteps y x }
+    is : (b c : Bool) → v ≡ valueAs (cond b (sayBy c (arctanSteps y x) 1) (Refused 7 0)) → T (b && c) → v ≡ record { reason = 0; place = 0; value = arctanSteps y x }
     is true true e h = e
     is true false e h = absurd h
     is false c e h = absurd h

@@ -10,7 +10,7 @@ use borrow.Fn.World.{ArgsD}
 use denote.Triple.Clauses.{AtExit}
 use Rattle.points.specs.declared.Point3.{Point3}
 use Rattle.kdtree.specs.Insert.{Lists, listsOf}
-use Rattle.walks.specs.Demand3.{Numbered, SomeNan, Bare, RoomFor, walkNames, Alone, Demand3}
+use Rattle.kdtree_laws.specs.Demand3.{Numbered, SomeNan, Bare, RoomFor, walkNames, Alone, Demand3}
 use Rattle.source.specs.Rust.{Option, None, Some}
 use Rattle.source.specs.Kdtree as source
 use Rattle.source.specs.Kdtree.{KdTree, newTree, nearest}

@@ -13,7 +13,7 @@ use lib.Ieee.Positive.{positive}
 use Rattle.floats.specs.Floats.{zero32}
 use Rattle.root.specs.Nearest.{Rounded}
 use Rattle.sines.specs.Sines.{inRange}
-use Rattle.angle_laws.specs.Angle.{Ratio, S, C, within}
+use Rattle.angle_laws.specs.Angle.{Ratio, S, C, closeTo}
 use Rattle.angle_laws.specs.Asked.{Arctan}
 use Rattle.limits.specs.Refusals.{reasonOf, placeOf, verdictOf, triplets, valueLines}
 use Rattle.source.specs.Coords.{«convert_array_to_spherical», «convert_array_to_cartesian»}
@@ -45,7 +45,7 @@ notAllowed place = record { reason = 7; place = place; value = zero32 }
 -- sine and cosine: from -16 to 16 within 2^-20 of document 01's S or C
 pub record NearHeard (x : Float) (ρ : Ratio) (v : SofaValue) : Type 0 where
   pub told : T (inRange x) → v .reason ≡ 0
-  pub near : T (inRange x) → within 1048576 (v .value) ρ
+  pub near : T (inRange x) → closeTo 1048576 (v .value) ρ
   pub refused : inRange x ≡ false → v ≡ notAllowed 0
 
 -- the arctangent of finite y and x: all of document 01's rules

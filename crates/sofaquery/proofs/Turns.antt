@@ -12,7 +12,7 @@ use lib.ListN.{length, take, drop, length-append, length-drop}
 use borrow.Author.Tests.{le-leb, lt-leb, ltb-true}
 use lib.Seq.{length-take-le}
 use Rattle.io.specs.Counts.{clamped}
-use Rattle.lines.specs.Machine.{At}
+use Rattle.text.specs.Machine.{At}
 use Rattle.setread.specs.Text.{joined}
 use Rattle.queries.specs.declared.Phase.{Phase}
 use Rattle.queries.specs.declared.Run.{Run}

@@ -10,13 +10,13 @@ use lib.Ieee.{Float}
 use Rattle.floats.specs.Floats.{zero32}
 use Rattle.lists.specs.Over.{over}
 use Rattle.io.specs.Counts.{clamped}
-use Rattle.lines.specs.Machine.{At}
-use Rattle.settext.specs.Lines.{Lists}
+use Rattle.text.specs.Machine.{At}
+use Rattle.settext.specs.Lines.{TextLists}
 use Rattle.loads.specs.Load.{Work, workOf}
 use Rattle.queries.specs.declared.Run.{Run}
-use Rattle.queries.specs.Program.{Session, listsOf, isOver, Ears, earsOf, closing, begun, noLists, noWork}
+use Rattle.queries.specs.Program.{Session, textLists, isOver, Ears, earsOf, closing, begun, noLists, noWork}
 use Rattle.queries.specs.Sound.{Sound}
-use Rattle.queries.specs.Machine.{Advance, startRun, between, placeOf, advanceOf, advanceEars}
+use Rattle.queries.specs.Machine.{Advance, startRun, betweenBytes, runPlace, advanceOf, advanceEars}
 use Rattle.sofaquery.specs.declared.Flow.{Flow}
 use Rattle.sofaquery.specs.declared.Flow.the-variants.{More, Ended, Unread, Unwritten}
 use Rattle.sofaquery.specs.declared.Went.{Went}
@@ -81,11 +81,11 @@ held a e out = record { place = a; ears = e; out = out }
 
 abbrev pub here : Run → List ℕ → List Float → List Float → List Float → List ℕ → List ℕ → List ℕ → List Float → List Float → List Float → List ℕ → Held
 here t buf positions responses delays left right neighbours cartesian outLeft outRight out =
-    held (placeOf t (listsOf positions responses delays) (workOf left right neighbours cartesian) buf) (earsOf outLeft outRight) out
+    held (runPlace t (textLists positions responses delays) (workOf left right neighbours cartesian) buf) (earsOf outLeft outRight) out
 
 -- all zeros
 abbrev pub startHeld : Held
-startHeld = held (between (begun noLists noWork) []) (earsOf (replicate 4096 zero32) (replicate 4096 zero32)) (replicate 73848 0)
+startHeld = held (betweenBytes (begun noLists noWork) []) (earsOf (replicate 4096 zero32) (replicate 4096 zero32)) (replicate 73848 0)
 
 -- after a turn over the rest of a chunk
 abbrev pub heldAfter : Held → List ℕ → Held
@@ -151,10 +151,10 @@ pub record Came (z : Held) (w : Went) : Type 0 where
 
 -- and is about to write what is left
 pub record Ends (w : Went) (buf out : List ℕ) : Type 0 where
-  pub lists : Lists
+  pub lists : TextLists
   pub work : Work
   pub ears : Ears
-  pub came : Came (held (placeOf (w .run) lists work buf) ears out) w
+  pub came : Came (held (runPlace (w .run) lists work buf) ears out) w
 
 -- ---- what was read and what was to be written
 

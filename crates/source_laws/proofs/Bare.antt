@@ -14,13 +14,13 @@ use Rattle.kdtree.specs.Geometry.{grown}
 use Rattle.kdtree.specs.Tree.{Tree, subtree}
 use Rattle.kdtree.specs.Search.{search}
 use Rattle.kdtree.specs.Insert.{Lists, Stored}
-use Rattle.kdtree.specs.Nearest.{startOf, foundFrom, numberOf}
+use Rattle.kdtree.specs.Nearest.{startAtRoot, foundFrom, numberOf}
 use Rattle.kdtree.proofs.Whole as whole
-use Rattle.walks.specs.Demand3.{Numbered, Bare, empty, insertInto, fill, RoomFor, nearestIn, searchIn, treeIn}
-use Rattle.walks.proofs.Pruned.{Clean}
-use Rattle.walks.proofs.Rep.{graft, rep-at}
-use Rattle.walks.proofs.Filled.{Filled, Next, first, next, root-clean, root-below}
-use Rattle.walks.proofs.Demand3.{room-now, room-kept, afterwards, keeps, empty-names-nothing}
+use Rattle.kdtree_laws.specs.Demand3.{Numbered, Bare, empty, insertInto, fill, RoomFor, nearestIn, searchIn, treeIn}
+use Rattle.kdtree_laws.proofs.Pruned.{Clean}
+use Rattle.kdtree_laws.proofs.Rep.{graft, rep-at}
+use Rattle.kdtree_laws.proofs.Filled.{Filled, Next, first, next, root-clean, root-below}
+use Rattle.kdtree_laws.proofs.Demand3.{room-now, room-kept, afterwards, keeps, empty-names-nothing}
 use Rattle.source.specs.Rust.{Option, None, Some}
 use Rattle.source.specs.Kdtree as source
 use Rattle.source.specs.Kdtree.{Link, kdNode, none, some, extend, newBox, grownBy, KdTree, newTree, insert, «insert_rec», nearestFrom, nearest}
@@ -150,12 +150,12 @@ module _ (t : Bare) (k : KdTree) (W : Whole t k) where
   named-by (Some n) Stopped e = absurd e
   named-by None w e = absurd e
 
-  searched : (q : Point3) → searchIn t q ≡ search (t .count) q tr (flat (H .box)) 0 (startOf (t .lists .positions) q)
+  searched : (q : Point3) → searchIn t q ≡ search (t .count) q tr (flat (H .box)) 0 (startAtRoot (t .lists .positions) q)
   unfolding foundFrom
   searched q =
-      ap (λ (z : Tree). search (t .count) q z (t .bounds) 0 (startOf (t .lists .positions) q))
+      ap (λ (z : Tree). search (t .count) q z (t .bounds) 0 (startAtRoot (t .lists .positions) q))
       drawn-tree
-      ∙ ap (λ (b : BoundingBox). search (t .count) q tr b 0 (startOf (t .lists .positions) q)) (sym (H .corners))
+      ∙ ap (λ (b : BoundingBox). search (t .count) q tr b 0 (startAtRoot (t .lists .positions) q)) (sym (H .corners))
 
   asked : (q : Point3) → nearest k q ≡ nearestFrom (boxed (numberAt t) tr 0) (Some (H .box)) q
   unfolding nearest
@@ -165,7 +165,7 @@ module _ (t : Bare) (k : KdTree) (W : Whole t k) where
   answers q =
       sym (whole.read (t .lists) (t .count) (t .bounds) q long (λ e. let z = H .filled .some in omega arith) (searchIn t q) refl)
       ∙ ap (numberOf (t .lists .numbers)) (searched q)
-      ∙ named-by (nearestFrom (boxed (numberAt t) tr 0) (Some (H .box)) q) (search (t .count) q tr (flat (H .box)) 0 (startOf (t .lists .positions) q))
+      ∙ named-by (nearestFrom (boxed (numberAt t) tr 0) (Some (H .box)) q) (search (t .count) q tr (flat (H .box)) 0 (startAtRoot (t .lists .positions) q))
       (nearest-names (numberAt t) (t .lists .left) (t .lists .right) (t .lists .positions) (t .count) (H .box) q tr (H .filled .rep)
       (root-clean (t .lists .left) (t .lists .right) (t .lists .positions) (t .count) tr 0 (H .filled .rep)) (H .filled .whole))
       ∙ ap named (sym (asked q))

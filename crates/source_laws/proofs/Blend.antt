@@ -11,7 +11,7 @@ use lib.Ieee.{Float, nan, binary32, div}
 use borrow.Author.Tests.{le-ltb, le-leb}
 use Rattle.floats.specs.Floats.{zero32}
 use Rattle.mix.specs.declared.Share.{Share}
-use Rattle.mix.specs.Mix.{plus, sums, startOf, tapOf, sampleOf, outOf}
+use Rattle.mix.specs.Mix.{plusProduct, sums, startOf, tapOf, sampleOf, outOf}
 use Rattle.mix.proofs.Laws as mix
 use Rattle.interpolate.specs.Blend.{part, strideOf, delayAt, plainDelay, blendDelay, Filter, extractOf, blendOf}
 use Rattle.source.specs.Rust.{None, Some}
@@ -130,15 +130,15 @@ module _ (m r n : ℕ) (xs resp delays : List Float) (rate : Float) (small : m �
       next-right-long : length (next .right) ≡ n
       next-right-long = ap length next-right ∙ adding-long resp (k * r * n + n) (weight p) n 0 (f .right) ∙ fr
 
-      left-at : (i : ℕ) → i < n → getD (next .left) i nan ≡ plus (getD (f .left) i nan) (weight p) (tapOf resp r n 0 i k)
+      left-at : (i : ℕ) → i < n → getD (next .left) i nan ≡ plusProduct (getD (f .left) i nan) (weight p) (tapOf resp r n 0 i k)
       left-at i h =
           ap (λ (l : List Float). getD l i nan) next-left ∙ adding-at resp (k * r * n) (weight p) n 0 (f .left) i (omega arith) (omega arith) (omega arith)
-          ∙ ap (λ (a : ℕ). plus (getD (f .left) i nan) (weight p) (getD resp (a + i) nan)) (start-left k hp)
+          ∙ ap (λ (a : ℕ). plusProduct (getD (f .left) i nan) (weight p) (getD resp (a + i) nan)) (start-left k hp)
 
-      right-at : (i : ℕ) → i < n → getD (next .right) i nan ≡ plus (getD (f .right) i nan) (weight p) (tapOf resp r n 1 i k)
+      right-at : (i : ℕ) → i < n → getD (next .right) i nan ≡ plusProduct (getD (f .right) i nan) (weight p) (tapOf resp r n 1 i k)
       right-at i h =
           ap (λ (l : List Float). getD l i nan) next-right ∙ adding-at resp (k * r * n + n) (weight p) n 0 (f .right) i (omega arith) (omega arith) (omega arith)
-          ∙ ap (λ (a : ℕ). plus (getD (f .right) i nan) (weight p) (getD resp (a + i) nan)) (start-right k hp)
+          ∙ ap (λ (a : ℕ). plusProduct (getD (f .right) i nan) (weight p) (getD resp (a + i) nan)) (start-right k hp)
 
       next-delays : addDelays delays m r k (weight p) (f .«delay_left») (f .«delay_right»)
           ≡ record { «delay_left» = delay.plusDelay delays m r k hp two 0 (weight p) (f .«delay_left»); «delay_right» = delay.plusDelay delays m r k hp two 1 (weight p) (f .«delay_right») }
@@ -152,7 +152,7 @@ module _ (m r n : ℕ) (xs resp delays : List Float) (rate : Float) (small : m �
       unfolding addPoint
       delay-right-is = ap (λ (d : source.Delays). d .«delay_right») next-delays
 
-    delayed-more : (e : ℕ) (a b : Float) (s : Share) (ps : List Share) → b ≡ (let z = strideOf (length delays) m r e in cond (z .some) (plus a (s .weight) (delayAt delays z (s .number))) a)
+    delayed-more : (e : ℕ) (a b : Float) (s : Share) (ps : List Share) → b ≡ (let z = strideOf (length delays) m r e in cond (z .some) (plusProduct a (s .weight) (delayAt delays z (s .number))) a)
         → delayed e b ps ≡ delayed e a (s ∷ ps)
     unfolding sums
     delayed-more e a b s ps h = ap (λ (x : Float). delayed e x ps) h ∙ go (strideOf (length delays) m r e .some)
@@ -160,7 +160,7 @@ module _ (m r n : ℕ) (xs resp delays : List Float) (rate : Float) (small : m �
         F : ℕ → Float
         F = delayAt delays (strideOf (length delays) m r e)
 
-        go : (g : Bool) → cond g (sums F (cond g (plus a (s .weight) (F (s .number))) a) ps) (cond g (plus a (s .weight) (F (s .number))) a) ≡ cond g (sums F (plus a (s .weight) (F (s .number))) ps) a
+        go : (g : Bool) → cond g (sums F (cond g (plusProduct a (s .weight) (F (s .number))) a) ps) (cond g (plusProduct a (s .weight) (F (s .number))) a) ≡ cond g (sums F (plusProduct a (s .weight) (F (s .number))) ps) a
         go true = refl
         go false = refl
 

@@ -6,7 +6,7 @@ use lib.Ieee.{Float, nan, inf, fin, binary32, neg, lt, isNan, ofBits}
 use Rattle.floats.specs.Floats.{zero32, absOf, maxOf}
 use lib.Ieee.Bits.{is-true, is-false}
 use Rattle.floats.proofs.Preorder.{lt-le-trans, lt→le, le→not-lt}
-use Rattle.limits.specs.Allowed.{nearest, angleStepOk}
+use Rattle.limits.specs.Allowed.{nearest32, angleStepOk}
 use Rattle.limits.proofs.Ends.{tenth, between-low}
 use Rattle.neighbors.specs.Neighbors.{angleCap}
 use Rattle.source.specs.Neighbors.{«max_steps»}
@@ -14,7 +14,7 @@ use Rattle.source.specs.Neighbors.{«max_steps»}
 -- an allowed step is above 0
 pub above-zero : (x : Float) → angleStepOk x ≡ true → lt zero32 x ≡ true
 unfolding angleStepOk
-above-zero x e = is-true (lt zero32 x) (lt-le-trans zero32 (nearest 1 10) x (subst (λ (y : Float). T (lt zero32 y)) (sym tenth) first) (between-low (nearest 1 10) (nearest 45 1) x e))
+above-zero x e = is-true (lt zero32 x) (lt-le-trans zero32 (nearest32 1 10) x (subst (λ (y : Float). T (lt zero32 y)) (sym tenth) first) (between-low (nearest32 1 10) (nearest32 45 1) x e))
   where
     first : T (lt zero32 (ofBits binary32 0x3dcccccd))
     first = unfold lt ofBits in tt

@@ -10,7 +10,7 @@ use lib.ListN.{length, getD}
 use lib.Ieee.{Float, nan, binary32, add, mul}
 use borrow.Author.Tests.{eqb-true, leb-true, lt-ltb}
 use Rattle.floats.specs.Floats.{zero32}
-use Rattle.mix.specs.Mix.{plus}
+use Rattle.mix.specs.Mix.{plusProduct}
 use Rattle.interpolate.specs.declared.Stride.{Stride}
 use Rattle.interpolate.specs.Blend as blend
 use Rattle.interpolate.specs.Blend.{nowhere, strideOf, delayAt, plainDelay}
@@ -30,7 +30,7 @@ module _ (delays : List Float) (m r k : ℕ) (hk : k < m) (hr : 2 ≤ r) where
 
   -- the port's stride by its three tests
   abbrev strided : ℕ → Bool → Bool → Bool → Stride
-  strided e a b c = cond a (blend.at 1 0) (cond b (blend.at r e) (cond c (blend.at 0 e) nowhere))
+  strided e a b c = cond a (blend.strideAt 1 0) (cond b (blend.strideAt r e) (cond c (blend.strideAt 0 e) nowhere))
 
   each : m * r ≤ len → k * r + 1 < len
   each g = omega (arith, suc-mul k r, mul-le-mul-right r hk)
@@ -82,7 +82,7 @@ module _ (delays : List Float) (m r k : ℕ) (hk : k < m) (hr : 2 ≤ r) where
   -- ---- one weighed point more
 
   abbrev pub plusDelay : ℕ → Float → Float → Float
-  plusDelay e w a = let s = strideOf len m r e in cond (s .some) (plus a w (delayAt delays s k)) a
+  plusDelay e w a = let s = strideOf len m r e in cond (s .some) (plusProduct a w (delayAt delays s k)) a
 
   pub add-same : (w l t : Float) → addDelays delays m r k w l t ≡ record { «delay_left» = plusDelay 0 w l; «delay_right» = plusDelay 1 w t }
   unfolding addDelays strideOf
@@ -100,17 +100,17 @@ module _ (delays : List Float) (m r k : ℕ) (hk : k < m) (hr : 2 ≤ r) where
           (cond b (cond (ltb (k * r + 1) len) (both (index delays (k * r)) (index delays (k * r + 1))) kept)
           (cond c (both (index delays 0) (getOr delays 1 (index delays 0))) kept)))
           (record {
-            «delay_left» = cond (strided 0 a b c .some) (plus l w (delayAt delays (strided 0 a b c) k)) l;
-            «delay_right» = cond (strided 1 a b c .some) (plus t w (delayAt delays (strided 1 a b c) k)) t;
+            «delay_left» = cond (strided 0 a b c .some) (plusProduct l w (delayAt delays (strided 0 a b c) k)) l;
+            «delay_right» = cond (strided 1 a b c .some) (plusProduct t w (delayAt delays (strided 1 a b c) k)) t;
           })
-      go true b c ea eb ec = let u = sym (by-one nan) in λ i. record { «delay_left» = plus l w (u i); «delay_right» = plus t w (u i) }
+      go true b c ea eb ec = let u = sym (by-one nan) in λ i. record { «delay_left» = plusProduct l w (u i); «delay_right» = plusProduct t w (u i) }
       go false true c ea eb ec =
           let u = sym (by-each nan) in
           ap (λ (g : Bool). cond g (both (index delays (k * r)) (index delays (k * r + 1))) kept) (lt-ltb (k * r + 1) len (each (leb-true (m * r) len eb)))
-          ∙ (λ i. record { «delay_left» = plus l w (u i); «delay_right» = plus t w (getD delays (k * r + 1) nan) })
+          ∙ (λ i. record { «delay_left» = plusProduct l w (u i); «delay_right» = plusProduct t w (getD delays (k * r + 1) nan) })
       go false false true ea eb ec =
           let z = leb-true r len ec in
           let u = sym (by-first nan) in
           let v : getD delays 1 (getD delays 0 nan) ≡ getD delays (k * 0 + 1) nan = inside delays 1 (getD delays 0 nan) nan (omega arith) ∙ sym (by-second nan) in
-          λ i. record { «delay_left» = plus l w (u i); «delay_right» = plus t w (v i) }
+          λ i. record { «delay_left» = plusProduct l w (u i); «delay_right» = plusProduct t w (v i) }
       go false false false ea eb ec = refl

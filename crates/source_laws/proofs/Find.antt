@@ -11,11 +11,11 @@ use Rattle.kdtree.specs.declared.Searched.the-variants.{Found, Stopped}
 use Rattle.kdtree.specs.Geometry.{nextAxis}
 use Rattle.kdtree.specs.Tree.{Tree, gone, bad, node}
 use Rattle.kdtree.specs.Search.{search}
-use Rattle.kdtree.specs.Nearest.{startAt, startOf}
+use Rattle.kdtree.specs.Nearest.{startAt, startAtRoot}
 use Rattle.kdtree.specs.Unpruned.{size}
 use Rattle.coords.specs.Coords.{radiusOf}
-use Rattle.walks.proofs.Pruned.{Clean}
-use Rattle.walks.proofs.Rep.{RepAt}
+use Rattle.kdtree_laws.proofs.Pruned.{Clean}
+use Rattle.kdtree_laws.proofs.Rep.{RepAt}
 use Rattle.lookup.specs.Build.{lookupOf}
 use Rattle.lookup.specs.Lookup.{scaled, clampedTo, clampedBy}
 use Rattle.source.specs.Rust.{Option, None, Some}
@@ -42,7 +42,7 @@ module _ (number : ℕ → ℕ) (left right : List ℕ) (xs : List Float) (count
   matches-names k v Stopped m = m
 
   pub nearest-names : (t : Tree) → RepAt left right xs count t 0 → Clean t → size t ≡ count
-      → Names number (nearestFrom (boxed number t 0) (Some b) q) (search count q t (flat b) 0 (startOf xs q))
+      → Names number (nearestFrom (boxed number t 0) (Some b) q) (search count q t (flat b) 0 (startAtRoot xs q))
   unfolding boxed nearestFrom «nearest_rec» startAt
   nearest-names gone r c e = r
   nearest-names bad r c e = r

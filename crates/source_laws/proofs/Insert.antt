@@ -6,8 +6,8 @@ use Prim.Native.Nat.{ℕ, _+_, _%_}
 use Rattle.points.specs.declared.Point3.{Point3}
 use Rattle.kdtree.specs.Geometry.{nextAxis, goesLeft}
 use Rattle.kdtree.specs.Tree.{Tree, gone, bad, node}
-use Rattle.walks.proofs.Pruned.{Clean}
-use Rattle.walks.proofs.Rep.{Mem, graft}
+use Rattle.kdtree_laws.proofs.Pruned.{Clean}
+use Rattle.kdtree_laws.proofs.Rep.{Mem, graft}
 use Rattle.source.specs.Kdtree.{Link, kdNode, none, some, «insert_rec»}
 use Rattle.source_laws.specs.Drawn.{boxed}
 use Rattle.source_laws.proofs.Shapes.{next-depth, goes-left}

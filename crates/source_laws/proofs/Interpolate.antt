@@ -12,12 +12,12 @@ use Rattle.floats.specs.Floats.{zero32, one32}
 use Rattle.points.specs.declared.Point3.{Point3}
 use Rattle.mix.specs.declared.Share.{Share}
 use Rattle.interpolate.specs.Blend as port
-use Rattle.interpolate.specs.Blend.{close32, tiny32, distanceOf, entryOf, known, allKnown, neighborsOf, pairOf, pointsOf, totalFrom, totalOf, part, Filter, filterOf, blendDelay, pick, extractOf, blendOf, weighedOf, interpolateOf, refusedOf}
+use Rattle.interpolate.specs.Blend.{close32, tiny32, distanceOf, entryOf, known, allKnown, neighborsOf, pairOf, pointsOf, totalFrom, totalOf, part, Filter, filterOf, blendDelay, pickFilter, extractOf, blendOf, weighedOf, interpolateOf, refusedOf}
 use Rattle.delays.specs.declared.Outcome.the-variants.{Blended}
 use Rattle.delays.specs.Delays.{secondsOf}
-use Rattle.weights.specs.Weights.{Measured}
-use Rattle.weights.proofs.Distances.{distance-nonneg}
-use Rattle.weights.proofs.Weights.{weight-nonneg}
+use Rattle.interpolate_laws.specs.Weights.{AllFinite}
+use Rattle.interpolate_laws.proofs.Distances.{distance-nonneg}
+use Rattle.interpolate_laws.proofs.Weights.{weight-nonneg}
 use Rattle.source.specs.Rust.{Option, None, Some}
 use Rattle.source.specs.Lookup.{Hrtf, triplet}
 use Rattle.source.specs.Neighbors.{Neighbors, get}
@@ -58,8 +58,8 @@ module _ (m r n : ℕ) (xs resp delays : List Float) (rate : Float) (small : m �
 
   -- one of two, on either side
   either : (g : Bool) (a b : Option InterpolatedFilter) (u v : Filter) → filledOr sofar out a ≡ heard u → filledOr sofar out b ≡ heard v
-      → filledOr sofar out (cond g a b) ≡ heard (pick g u v)
-  unfolding pick
+      → filledOr sofar out (cond g a b) ≡ heard (pickFilter g u v)
+  unfolding pickFilter
   either true a b u v e f = e
   either false a b u v e f = f
 
@@ -69,7 +69,7 @@ module _ (m r n : ℕ) (xs resp delays : List Float) (rate : Float) (small : m �
   abbrev mixed : List Share → Filter
   mixed = blendOf m r n resp delays rate (length (out .left)) (length (out .right))
 
-  module _ (q : Point3) (k : ℕ) (hk : k < m) (finite : Measured m xs q) (s : Neighbors) (six : SixIn m s) where
+  module _ (q : Point3) (k : ℕ) (hk : k < m) (finite : AllFinite m xs q) (s : Neighbors) (six : SixIn m s) where
     abbrev d : ℕ → Float
     d = distanceOf xs q
 
@@ -142,12 +142,12 @@ module _ (m r n : ℕ) (xs resp delays : List Float) (rate : Float) (small : m �
         ∙ ap (λ (o : Option Neighbors). past o (d k)) eg
 
     port-opens : (near : List ℕ) → neighborsOf near k ≡ enteredAll s
-        → interpolateOf m r n resp delays rate (length (out .left)) (length (out .right)) xs near q k ≡ pick (lt (d k) close32) (plain k) (weighed (enteredAll s))
-    unfolding interpolateOf pick
+        → interpolateOf m r n resp delays rate (length (out .left)) (length (out .right)) xs near q k ≡ pickFilter (lt (d k) close32) (plain k) (weighed (enteredAll s))
+    unfolding interpolateOf pickFilter
     port-opens near en =
         let no = refusedOf 9 0 (length (out .left)) (length (out .right)) in
-        ap (λ (z : port.Neighbors). pick (lt (d k) close32) (plain k) (pick (allKnown m z) (weighed z) no)) en
-        ∙ ap (λ (b : Bool). pick (lt (d k) close32) (plain k) (pick b (weighed (enteredAll s)) no)) (all-known m s small six)
+        ap (λ (z : port.Neighbors). pickFilter (lt (d k) close32) (plain k) (pickFilter (allKnown m z) (weighed z) no)) en
+        ∙ ap (λ (b : Bool). pickFilter (lt (d k) close32) (plain k) (pickFilter b (weighed (enteredAll s)) no)) (all-known m s small six)
 
     -- THE FILTER QUERY, its nearest measurement known
     pub interpolate-same : (table : List Neighbors) (near : List ℕ) → get table k ≡ Some s → neighborsOf near k ≡ enteredAll s
@@ -193,7 +193,7 @@ module _ (m r n : ℕ) (xs resp delays : List Float) (rate : Float) (small : m �
         ps = pointsOf d (enteredAll s) k
 
         here : Filter
-        here = pick (lt (d k) close32) (plain k) (weighed (enteredAll s))
+        here = pickFilter (lt (d k) close32) (plain k) (weighed (enteredAll s))
 
         blend : Filter
         blend = mixed (map (part (totalOf ps)) ps)
@@ -207,10 +207,10 @@ module _ (m r n : ℕ) (xs resp delays : List Float) (rate : Float) (small : m �
         blend-told : blend ≡ told (blending all) (heard blend)
         blend-told = unfold blendOf in ap (λ (c : ℕ). filterOf (Blended (secondsOf (blendDelay delays m r 0 (map (part (totalOf ps)) ps)) rate) (secondsOf (blendDelay delays m r 1 (map (part (totalOf ps)) ps)) rate) c) (blend .left) (blend .right)) as-many
 
-        by-tests : (g h : Bool) → pick g (plain k) (pick h (plain k) blend) ≡ told (cond g exactly (cond h exactly (blending all))) (heard (pick g (plain k) (pick h (plain k) blend)))
-        by-tests true h = unfold pick in plain-told
-        by-tests false true = unfold pick in plain-told
-        by-tests false false = unfold pick in blend-told
+        by-tests : (g h : Bool) → pickFilter g (plain k) (pickFilter h (plain k) blend) ≡ told (cond g exactly (cond h exactly (blending all))) (heard (pickFilter g (plain k) (pickFilter h (plain k) blend)))
+        by-tests true h = unfold pickFilter in plain-told
+        by-tests false true = unfold pickFilter in plain-told
+        by-tests false false = unfold pickFilter in blend-told
 
         opens : here ≡ told (wayHere (d k)) (heard here)
         opens = unfold weighedOf wayBy source.points in

@@ -15,13 +15,13 @@ use Rattle.kdtree.specs.declared.Searched.the-variants.{Found}
 use Rattle.kdtree.specs.Geometry.{boxAt}
 use Rattle.kdtree.specs.Tree.{subtree}
 use Rattle.kdtree.specs.Insert.{listsOf}
-use Rattle.kdtree.specs.Nearest.{placeOf}
+use Rattle.kdtree.specs.Nearest.{placeFound}
 use Rattle.kdtree.proofs.Whole as whole
-use Rattle.walks.specs.Demand3.{Bare, RoomFor, treeIn}
-use Rattle.walks.proofs.Rep.{Mem, rep-at}
-use Rattle.walks.proofs.Filled.{Filled, root-below}
+use Rattle.kdtree_laws.specs.Demand3.{Bare, RoomFor, treeIn}
+use Rattle.kdtree_laws.proofs.Rep.{Mem, rep-at}
+use Rattle.kdtree_laws.proofs.Filled.{Filled, root-below}
 use Rattle.lookup.specs.Build.{Links, linked, boxOf, lookupOf}
-use Rattle.lookup.specs.Lookup.{clampedBy, locatedAs, locateOf}
+use Rattle.lookup.specs.Lookup.{clampedBy, locatedBy, locateOf}
 use Rattle.lookup.specs.declared.Located.the-variants.{At}
 use Rattle.lookup.proofs.Links.{linked-left, linked-right}
 use Rattle.lookup_laws.proofs.Nearest.{length-placed}
@@ -138,23 +138,23 @@ module _ (xs : List Float) (n : ℕ) (left right : List ℕ) (H : Holds xs n lef
     abbrev P : filled.Placed xs (suc n) (H .before) (H .room) (boxOf xs (suc n)) p
     P = filled.found xs (suc n) (H .before) (H .room) (boxOf xs (suc n)) p
 
-    place-is : placeOf xs left right (suc n) (boxOf xs (suc n)) p ≡ Found (P .best)
+    place-is : placeFound xs left right (suc n) (boxOf xs (suc n)) p ≡ Found (P .best)
     place-is =
-        ap (λ (l : List ℕ). placeOf xs l right (suc n) (boxOf xs (suc n)) p) (H .left-is)
-        ∙ ap (λ (l : List ℕ). placeOf xs (over (linked xs (suc n) .left) (H .before .left)) l (suc n) (boxOf xs (suc n)) p) (H .right-is) ∙ P .is
+        ap (λ (l : List ℕ). placeFound xs l right (suc n) (boxOf xs (suc n)) p) (H .left-is)
+        ∙ ap (λ (l : List ℕ). placeFound xs (over (linked xs (suc n) .left) (H .before .left)) l (suc n) (boxOf xs (suc n)) p) (H .right-is) ∙ P .is
 
     source-names : nearest (measuredTo xs (suc n) .kdtree) p ≡ Some (P .best .place)
     source-names = only-some (nearest (measuredTo xs (suc n) .kdtree) p) (P .best .place)
         (ap (λ (k : KdTree). named (nearest k p)) (sym built-by) ∙ sym (is-source .names p)
-        ∙ sym (whole.found-number (listsOf xs left right numbers) (suc n) (boxOf xs (suc n)) p readable (λ e. omega arith) (placeOf xs left right (suc n) (boxOf xs (suc n)) p) refl (P .best) place-is)
+        ∙ sym (whole.found-number (listsOf xs left right numbers) (suc n) (boxOf xs (suc n)) p readable (λ e. omega arith) (placeFound xs left right (suc n) (boxOf xs (suc n)) p) refl (P .best) place-is)
         ∙ ap (λ (k : ℕ). Number k) (number-at (suc n) (P .best .place) (replicate (suc n) 0) (P .below)))
 
     -- FIND ANSWERS WHAT THE SOURCE'S FINDS
     pub finds : Finds xs n left right q
-    unfolding find locateOf lookupOf locatedAs
+    unfolding find locateOf lookupOf locatedBy
     finds = record {
       number = P .best .place;
       below = P .below;
-      in-port = ap locatedAs place-is;
+      in-port = ap locatedBy place-is;
       in-source = ap (nearest (measuredTo xs (suc n) .kdtree)) (clamp-same xs (suc n) q) ∙ source-names;
     }

@@ -13,7 +13,7 @@ use Rattle.kdtree.specs.Geometry.{coordOf, boxDistSq, withMin, withMax, nextAxi
 use Rattle.kdtree.specs.Tree.{Tree, gone, bad, node}
 use Rattle.kdtree.specs.Search.{search, improve, visited, farther, afterNear}
 use Rattle.kdtree.specs.Unpruned.{size}
-use Rattle.walks.proofs.Pruned.{Clean, search-left, search-right, improve-visits}
+use Rattle.kdtree_laws.proofs.Pruned.{Clean, search-left, search-right, improve-visits}
 use Rattle.source.specs.Rust.{at, put}
 use Rattle.source.specs.Kdtree as source
 use Rattle.source.specs.Kdtree.{Link, KdNode, kdNode, some, dataOf, current, «nearest_rec», nearerSide, fartherSide}

@@ -16,7 +16,7 @@ use Rattle.limits.specs.declared.Verdict.the-variants as verdict
 use Rattle.limits.specs.Allowed.{angleStepOk}
 use Rattle.lookup.specs.Build.{lookupOf}
 use Rattle.neighbors.specs.declared.Reached.{Reached}
-use Rattle.neighbors.specs.Neighbors.{steps, stepOf, angleCap, capOf, going, directionOf, neighborOf, entryOf, tabledAs, tableOf}
+use Rattle.neighbors.specs.Neighbors.{steps, stepOf, angleCap, capOf, going, directionOf, neighborOf, tableEntry, tabledAs, tableOf}
 use Rattle.neighbors.proofs.Table.{Writes, writes-at, writes-absent, all-answered}
 use Rattle.source.specs.Rust.{Option, None, Some}
 use Rattle.source.specs.Coords.{«cartesian_to_spherical»}
@@ -93,15 +93,15 @@ module _ (xs : List Float) (n : ℕ) (small : suc n ≤ 16384) (left right : Lis
   abbrev pub entryAt : ℕ → ℕ
   entryAt k = entered (sixth (six (k / 6)) (k % 6))
 
-  entry-same : (k : ℕ) → Writes (entryOf (lookupOf xs (suc n)) (suc n) xs left right angle radius k) (entryAt k)
-  unfolding entryOf
+  entry-same : (k : ℕ) → Writes (tableEntry (lookupOf xs (suc n)) (suc n) xs left right angle radius k) (entryAt k)
+  unfolding tableEntry
   entry-same k = writes-entered _ (sixth (six (k / 6)) (k % 6)) (six-same (k / 6) (k % 6) (omega arith) .0)
 
   -- THE WHOLE TABLE: no entry refuses, and the 6m entries are the source's
   pub table-same : (d : List ℕ) → 6 * suc n ≤ length d
       → tableOf (lookupOf xs (suc n)) (suc n) xs left right angle radius d ≡ tabledAs verdict.Fine (over (upto entryAt (6 * suc n)) d)
   unfolding tableOf
-  table-same d l = all-answered (entryOf (lookupOf xs (suc n)) (suc n) xs left right angle radius) entryAt d (6 * suc n) (λ k b. entry-same k) l
+  table-same d l = all-answered (tableEntry (lookupOf xs (suc n)) (suc n) xs left right angle radius) entryAt d (6 * suc n) (λ k b. entry-same k) l
 
   -- ---- Neighborhood::new
 

@@ -8,7 +8,7 @@ use Rattle.kdtree.specs.declared.Inserted.{Inserted}
 use Rattle.kdtree.specs.declared.Inserted.the-variants.{Done}
 use Rattle.kdtree.specs.declared.Named.{Named}
 use Rattle.kdtree.specs.declared.Named.the-variants.{Nothing, Number}
-use Rattle.walks.specs.Demand3.{Numbered, Bare, insertInto, RoomFor, nearestIn, treeIn}
+use Rattle.kdtree_laws.specs.Demand3.{Numbered, Bare, insertInto, RoomFor, nearestIn, treeIn}
 use Rattle.source.specs.Rust.{Option, None, Some}
 use Rattle.source.specs.Kdtree as source
 use Rattle.source.specs.Kdtree.{KdTree, newTree, insert, nearest}

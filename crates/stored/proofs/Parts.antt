@@ -20,7 +20,7 @@ use Rattle.stored.specs.declared.Part.{Part}
 use Rattle.stored.specs.declared.Part.the-variants as part
 use Rattle.stored.specs.declared.Entries.{Entries}
 use Rattle.stored.specs.declared.Around.the-variants as around
-use Rattle.stored.specs.Numbers.{partBy, partOf, within, responseOf, entriesOf, aroundBy, aroundOf}
+use Rattle.stored.specs.Numbers.{partBy, partOf, tapsIn, responseOf, entriesOf, aroundBy, aroundOf}
 use Rattle.delays.specs.declared.Seconds.{Seconds}
 use Rattle.delays.specs.Delays.{secondsOf}
 use Rattle.stored.specs.declared.MaxDelay.the-variants.{Delay, Refused}
@@ -77,14 +77,14 @@ module _ (s : Sizes) (len number e : ℕ) where
 
 module _ (s : Sizes) (xs : List Float) (number e : ℕ) (w : Part) (ew : w ≡ partOf s (length xs) number e) where
   pub taps : (a n : ℕ) → w ≡ part.Taps a n → take (a + n - a) (drop a xs) ≡ responseOf s xs number e
-  unfolding within
+  unfolding tapsIn
   taps a n h =
       let d : a + n - a ≡ n = omega arith in
-      ap (λ (k : ℕ). take k (drop a xs)) d ∙ sym (ap (λ (u : Part). within u xs) (sym ew ∙ h))
+      ap (λ (k : ℕ). take k (drop a xs)) d ∙ sym (ap (λ (u : Part). tapsIn u xs) (sym ew ∙ h))
 
   pub no-taps : (n p : ℕ) → w ≡ part.Refused n p → [] ≡ responseOf s xs number e
-  unfolding within
-  no-taps n p h = sym (ap (λ (u : Part). within u xs) (sym ew ∙ h))
+  unfolding tapsIn
+  no-taps n p h = sym (ap (λ (u : Part). tapsIn u xs) (sym ew ∙ h))
 
 -- ---- entries
 

@@ -28,12 +28,12 @@ unfoldable pub partOf : Sizes → ℕ → ℕ → ℕ → Part
 partOf s len number e = partBy (verdictOf (numberLines s (responsesFit s len) number)) (startOf (s .r) (s .n) e number) (s .n)
 
 -- the part of a list; refused, it is empty
-unfoldable pub within : Part → List Float → List Float
-within (part.Taps start count) xs = take count (drop start xs)
-within (part.Refused number place) xs = []
+unfoldable pub tapsIn : Part → List Float → List Float
+tapsIn (part.Taps start count) xs = take count (drop start xs)
+tapsIn (part.Refused number place) xs = []
 
 abbrev pub responseOf : Sizes → List Float → ℕ → ℕ → List Float
-responseOf s xs number e = within (partOf s (length xs) number e) xs
+responseOf s xs number e = tapsIn (partOf s (length xs) number e) xs
 
 -- ---- neighbours
 

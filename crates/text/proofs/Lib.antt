@@ -1,2 +1,5 @@
 pub mod Reading
 pub mod Printing
+pub mod Bytes
+pub mod Chunks
+pub mod Keys

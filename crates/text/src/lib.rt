@@ -3,15 +3,29 @@
 // Reading: specs/Number.antt (eight hexadecimal digits, a decimal with its limit, a prefix) and specs/Values.antt (values in a line, and what
 // a lent list holds afterwards). Printing: specs/Print.antt. Laws that callers cite stand in proofs/Reading.antt, among them `long-count`: a
 // decimal with more digits than its limit is malformed, however long it is.
+//
+// Lines out of a text that comes in chunks. The line begun is kept in a lent buffer; of a line that is longer than the buffer only the first
+// bytes are kept, and its end is still found.
+//
+// specs/Lines.antt says how a chunk is cut, specs/Machine.antt what a machine over lines makes of a text. proofs/Chunks.antt shows that it
+// does not matter where the text is divided (`chunks`, `runs-on`), that the machine goes by lines (`by-lines`, `by-text`), and that the buffer
+// does not show where `onLine` does not look past it (`cut-kept`, `runs-kept`).
+//
+// A line `key=..` and what stands behind its key: a word, a decimal, a value, values for a lent list, a point.
+//
+// The definitions stand in specs/Keys.antt, with words written as texts (specs/Words.antt).
 ghost use mathlib.Core.Path.{_≡_};
 ghost use mathlib.Core.Bool.{_&&_};
-ghost use Prim.Native.Nat.{_+_, _*_, _≤_, _<_};
+ghost use Prim.Native.Nat.{_+_, _*_, _≤_, _<_, min};
 ghost use lib.Dec.{leb};
-ghost use lib.ListN.{length};
+ghost use lib.ListN.{length, set, drop};
 ghost use Rattle.lists.specs.Over.{over};
 ghost use Rattle.text.specs.Number.{digitOf, numFrom, hexOf, countOf, begins, atMost};
 ghost use Rattle.text.specs.Print.{glyphOf, hexText, decimalText};
 ghost use Rattle.text.specs.Values.{goodAt, valuesOk, valueAt, stored};
+ghost use Rattle.text.specs.Lines.{CutSays};
+ghost use Rattle.text.specs.Keys.{exactlyOf, numBehind, valuesFit, pointRead, pointBehind};
+use points::Point3;
 
 pub enum Num {
     Is(u32),
@@ -214,4 +228,110 @@ pub fn values(s: &[u8], n: usize, out: &mut [f32], at: usize) -> bool
         return true;
     }
     false
+}
+
+// ---- lines
+
+pub enum Cut {
+    // A whole line: the chunk goes on at the first number, and so many bytes of the line are in the buffer.
+    Line(usize, usize),
+    // The chunk is used up; so many bytes of a line are in the buffer.
+    More(usize),
+}
+
+// One byte more of the line begun, if there is room: how many are kept.
+fn keep(buf: &mut [u8], used: usize, b: u8) -> usize
+    requires { ⌜ used ≤ length (now buf) ⌝ }
+    ensures { λ r. ⌜ (r ≡ min (used + 1) (length (now (buf .entry)))) × (now (buf .exit) ≡ set (now (buf .entry)) used b) ⌝ }
+{
+    if used < buf.len() {
+        buf[used] = b;
+        return used + 1;
+    }
+    used
+}
+
+// The next line of the chunk from a place on, where `used` bytes of it are in the buffer already.
+pub fn next_line(chunk: &[u8], from: usize, buf: &mut [u8], used: usize) -> Cut
+    requires { ⌜ (from ≤ length (now chunk)) × (used ≤ length (now buf)) ⌝ }
+    ensures { λ r. ⌜ CutSays (now (chunk .entry)) (now (buf .entry)) from used r (now (buf .exit)) ⌝ }
+{
+    let mut i = from;
+    let mut u = used;
+    while i < chunk.len() {
+        let b = chunk[i];
+        if b == 10 {
+            return Cut::Line(i + 1, u);
+        }
+        u = keep(buf, u, b);
+        i += 1;
+    }
+    Cut::More(u)
+}
+
+// ---- keys
+
+pub enum Place {
+    At(Point3),
+    Nowhere,
+}
+
+pub fn exactly(word: &[u8], line: &[u8]) -> bool
+    ensures { λ r. ⌜ r ≡ exactlyOf (now (word .entry)) (now (line .entry)) ⌝ }
+{
+    begins_with(word, line) & (line.len() == word.len())
+}
+
+pub fn count_behind(key: &[u8], line: &[u8], limit: u32) -> Num
+    ensures { λ r. ⌜ r ≡ numBehind (now (key .entry)) (countOf limit) (now (line .entry)) ⌝ }
+{
+    if begins_with(key, line) {
+        let k = key.len();
+        return count(&line[k..], limit);
+    }
+    Num::Bad
+}
+
+pub fn hex_behind(key: &[u8], line: &[u8]) -> Num
+    ensures { λ r. ⌜ r ≡ numBehind (now (key .entry)) hexOf (now (line .entry)) ⌝ }
+{
+    if begins_with(key, line) {
+        let k = key.len();
+        return hex(&line[k..]);
+    }
+    Num::Bad
+}
+
+// The n values behind the key, to out from place `at` on. A line that is malformed, or that finds no room, writes nothing.
+pub fn values_behind(key: &[u8], line: &[u8], n: usize, out: &mut [f32], at: usize) -> bool
+    ensures { λ r. ⌜ (r ≡ valuesFit (now (key .entry)) n at (now (line .entry)) (now (out .entry))) × (now (out .exit) ≡ stored r (drop (length (now (key .entry))) (now (line .entry))) n at (now (out .entry))) ⌝ }
+{
+    if begins_with(key, line) {
+        let k = key.len();
+        return values(&line[k..], n, out, at);
+    }
+    false
+}
+
+pub fn point_behind(key: &[u8], line: &[u8]) -> Place
+    ensures { λ r. ⌜ r ≡ pointBehind (now (key .entry)) (now (line .entry)) ⌝ }
+{
+    if begins_with(key, line) {
+        let k = key.len();
+        return point(&line[k..]);
+    }
+    Place::Nowhere
+}
+
+fn point(s: &[u8]) -> Place
+    ensures { λ r. ⌜ r ≡ pointRead (now (s .entry)) ⌝ }
+{
+    if values_ok(s, 3) {
+        return Place::At(Point3 {
+            x: value_at(s, 0),
+            y: value_at(s, 1),
+            z: value_at(s, 2),
+        });
+    }
+    Place::Nowhere
 }

@@ -12,7 +12,7 @@ use Rattle.lookup.specs.declared.Located.{Located}
 use Rattle.loads.specs.Load.{workOf}
 use Rattle.blocks.specs.Blocks.{blockOf}
 use Rattle.blocks.proofs.Rooms.{block-room}
-use Rattle.answers.specs.Answers.{filteredOf, blockFor, answerOf, answeredAs, answeredOf}
+use Rattle.answers.specs.Answers.{filteredOf, blockFor, answerBlock, answeredAs, answeredOf}
 use borrow.Author.Needs.{needs}
 use Rattle.answers.proofs.answer.Statement.{statement}
 use Rattle.answers.proofs.answer.Tie as tie
@@ -44,7 +44,7 @@ same-length-3 : tie.Need-same-length-3
 same-length-3 c = c .before .before .block .kept .1 .1 .1 .1 .0
 
 returns : tie.Need-returns
-unfolding answerOf answeredOf
+unfolding answerBlock answeredOf
 returns c =
     let s = c .before .before .before .before .before .before .before .before .before .before .before .before .before .before .before .before .before .before .before .before .before .before .before in
     let a = s .args in
@@ -52,7 +52,7 @@ returns c =
     let f = c .before .before .before .before .before .before .before .before .before .before .ask in
     let b = c .before .before .block in
     let d = workOf (now (a .left)) (now (a .right)) (now (a .neighbours)) (now (a .cartesian)) in
-    let e : blockOf (f .result) (k .result) (f .last .1 .1 .1 .1 .1 .1 .1 .1 .1 .0) (f .last .1 .1 .1 .1 .1 .1 .1 .1 .1 .1 .0) ≡ answerOf (a .s) (a .look) d (now (a .responses)) (now (a .delays)) (a .q) =
+    let e : blockOf (f .result) (k .result) (f .last .1 .1 .1 .1 .1 .1 .1 .1 .1 .0) (f .last .1 .1 .1 .1 .1 .1 .1 .1 .1 .1 .0) ≡ answerBlock (a .s) (a .look) d (now (a .responses)) (now (a .delays)) (a .q) =
     ap (λ (t : Filter). blockFor t (k .result)) (f .ensures) ∙ ap (λ (n : Located). blockFor (filteredOf (a .s) (a .look) d (now (a .responses)) (now (a .delays)) (a .q)) n) (k .ensures) in
     same (b .ensures .0 ∙ ap length e) (b .ensures .1 ∙ ap (λ (t : List ℕ). over t (now (a .out))) e) (ap (λ (t : Filter). t .left) (f .ensures)) (ap (λ (t : Filter). t .right) (f .ensures))
 

@@ -3,7 +3,7 @@ use mathlib.Core.Path.{ap, _∙_}
 use denote.Ref.{now}
 use Rattle.limits.specs.declared.Sizes.{Sizes}
 use Rattle.lookup.specs.Lookup.{findOf}
-use Rattle.answers.specs.Answers.{nearestOf}
+use Rattle.answers.specs.Answers.{nearestNumber}
 use borrow.Author.Needs.{needs}
 use Rattle.answers.proofs.nearest.Statement.{statement}
 use Rattle.answers.proofs.nearest.Tie as tie
@@ -15,7 +15,7 @@ find-requires : tie.Need-find-requires
 find-requires c κs = search needs
 
 returns : tie.Need-returns
-unfolding nearestOf
+unfolding nearestNumber
 returns c =
     let a = c .before .before .before .before .before .before .args in
     c .find .ensures ∙ ap (λ (z : Sizes). findOf (a .look) z (now (a .cartesian)) (now (a .left)) (now (a .right)) (a .q)) (c .before .sizes-of .ensures)

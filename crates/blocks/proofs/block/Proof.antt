@@ -4,9 +4,9 @@ use mathlib.Core.Path.{refl, subst, sym}
 use mathlib.Core.List.{List}
 use native.Mathlib.Omega.{arith}
 use denote.Ref.{now}
-use Rattle.keys.specs.Words.{bytes}
+use Rattle.text.specs.Words.{bytes}
 use Rattle.delays.specs.declared.Outcome.{Outcome}
-use Rattle.blocks.specs.Put.{Room, Wrote}
+use Rattle.blocks.specs.Put.{FitsAt, Wrote}
 use Rattle.blocks.specs.Blocks.{blockOf}
 use Rattle.blocks.proofs.Into.{front}
 use borrow.Author.Needs.{needs}
@@ -27,8 +27,8 @@ found-block-requires c κs =
     let d = now (a .out) in
     let g = c .before .before .before .outcome .given in
     let text : Outcome → List ℕ = λ o. blockOf o (a .found) (now (a .left)) (now (a .right)) in
-    let h : Room 0 (text (a .outcome)) d = omega (arith, s .pre) in
-    subst (λ (o : Outcome). Room 0 (text o) d) (g .1) h
+    let h : FitsAt 0 (text (a .outcome)) d = omega (arith, s .pre) in
+    subst (λ (o : Outcome). FitsAt 0 (text o) d) (g .1) h
 
 enum-known-outcome-2 : tie.Need-enum-known-outcome-2
 enum-known-outcome-2 c = search needs
@@ -44,8 +44,8 @@ found-block-requires-2 c κs =
     let d = now (a .out) in
     let g = c .before .before .before .outcome2 .given in
     let text : Outcome → List ℕ = λ o. blockOf o (a .found) (now (a .left)) (now (a .right)) in
-    let h : Room 0 (text (a .outcome)) d = omega (arith, s .pre) in
-    subst (λ (o : Outcome). Room 0 (text o) d) (g .1) h
+    let h : FitsAt 0 (text (a .outcome)) d = omega (arith, s .pre) in
+    subst (λ (o : Outcome). FitsAt 0 (text o) d) (g .1) h
 
 enum-known-outcome-3 : tie.Need-enum-known-outcome-3
 enum-known-outcome-3 c = search needs
@@ -61,8 +61,8 @@ refused-block-requires c κs =
     let d = now (a .out) in
     let g = c .before .before .outcome3 .given in
     let text : Outcome → List ℕ = λ o. blockOf o (a .found) (now (a .left)) (now (a .right)) in
-    let h : Room 0 (text (a .outcome)) d = omega (arith, s .pre) in
-    subst (λ (o : Outcome). Room 0 (text o) d) (g .1) h
+    let h : FitsAt 0 (text (a .outcome)) d = omega (arith, s .pre) in
+    subst (λ (o : Outcome). FitsAt 0 (text o) d) (g .1) h
 
 same-length : tie.Need-same-length
 same-length c = c .before .before .found-block .kept .1 .1 .1 .1 .1 .1 .1 .0

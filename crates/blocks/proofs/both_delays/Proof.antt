@@ -3,8 +3,8 @@ use mathlib.Core.Path.{refl, _∙_}
 use Prim.Native.Nat.{ℕ}
 use mathlib.Core.List.{_++_}
 use denote.Ref.{now}
-use Rattle.keys.specs.Words.{bytes}
-use Rattle.blocks.specs.Put.{Room}
+use Rattle.text.specs.Words.{bytes}
+use Rattle.blocks.specs.Put.{FitsAt}
 use Rattle.blocks.specs.Blocks.{valueLine, delaysText}
 use Rattle.blocks.proofs.Into.{then, room-left, room-right}
 use Rattle.blocks.proofs.both_delays.Statement.{statement}
@@ -19,7 +19,7 @@ value-line-requires c κs =
     let s = c .before .before .before in
     let d = now (s .args .out) in
     let at : ℕ = s .args .at in
-    let r2 : Room at (valueLine (bytes "ldelay=") (s .args .left .0) ++ valueLine (bytes "rdelay=") (s .args .right .0)) d = s .pre in
+    let r2 : FitsAt at (valueLine (bytes "ldelay=") (s .args .left .0) ++ valueLine (bytes "rdelay=") (s .args .right .0)) d = s .pre in
     let r1 = room-left at (valueLine (bytes "ldelay=") (s .args .left .0)) (valueLine (bytes "rdelay=") (s .args .right .0)) d r2 in
     r1
 
@@ -32,7 +32,7 @@ value-line-requires-2 c κs =
     let s = c .before .before .before .before .before .before .before .before in
     let d = now (s .args .out) in
     let at : ℕ = s .args .at in
-    let r2 : Room at (valueLine (bytes "ldelay=") (s .args .left .0) ++ valueLine (bytes "rdelay=") (s .args .right .0)) d = s .pre in
+    let r2 : FitsAt at (valueLine (bytes "ldelay=") (s .args .left .0) ++ valueLine (bytes "rdelay=") (s .args .right .0)) d = s .pre in
     let r1 = room-left at (valueLine (bytes "ldelay=") (s .args .left .0)) (valueLine (bytes "rdelay=") (s .args .right .0)) d r2 in
     let p1 = c .before .before .before .before .value-line in
     let e1 = p1 .last .1 .1 .0 in
@@ -48,7 +48,7 @@ returns c =
     let s = c .before .before .before .before .before .before .before .before .before .before .before in
     let d = now (s .args .out) in
     let at : ℕ = s .args .at in
-    let r2 : Room at (valueLine (bytes "ldelay=") (s .args .left .0) ++ valueLine (bytes "rdelay=") (s .args .right .0)) d = s .pre in
+    let r2 : FitsAt at (valueLine (bytes "ldelay=") (s .args .left .0) ++ valueLine (bytes "rdelay=") (s .args .right .0)) d = s .pre in
     let r1 = room-left at (valueLine (bytes "ldelay=") (s .args .left .0)) (valueLine (bytes "rdelay=") (s .args .right .0)) d r2 in
     let p1 = c .before .before .before .before .before .before .before .value-line in
     let e1 = p1 .last .1 .1 .0 in

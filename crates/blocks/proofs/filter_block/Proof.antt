@@ -3,8 +3,8 @@ use mathlib.Core.Path.{refl, _∙_}
 use Prim.Native.Nat.{ℕ}
 use mathlib.Core.List.{_++_}
 use denote.Ref.{now}
-use Rattle.keys.specs.Words.{bytes}
-use Rattle.blocks.specs.Put.{Room}
+use Rattle.text.specs.Words.{bytes}
+use Rattle.blocks.specs.Put.{FitsAt}
 use Rattle.blocks.specs.Blocks.{valuesLine, headText, delaysText, filterText}
 use Rattle.blocks.proofs.Into.{then, room-left, room-right}
 use Rattle.blocks.proofs.filter_block.Statement.{statement}
@@ -16,7 +16,7 @@ head-requires c κs =
     let s = c .before .before .before .before .before in
     let d = now (s .args .out) in
     let at : ℕ = 0 in
-    let r4 : Room at (headText (now (s .args .answer)) (s .args .nearest) (s .args .points) ++ valuesLine (bytes "left=") (now (s .args .left)) ++ valuesLine (bytes "right=") (now (s .args .right)) ++ delaysText (s .args .ldelay) (s .args .rdelay)) d = s .pre in
+    let r4 : FitsAt at (headText (now (s .args .answer)) (s .args .nearest) (s .args .points) ++ valuesLine (bytes "left=") (now (s .args .left)) ++ valuesLine (bytes "right=") (now (s .args .right)) ++ delaysText (s .args .ldelay) (s .args .rdelay)) d = s .pre in
     let r3 = room-left at (headText (now (s .args .answer)) (s .args .nearest) (s .args .points) ++ valuesLine (bytes "left=") (now (s .args .left)) ++ valuesLine (bytes "right=") (now (s .args .right))) (delaysText (s .args .ldelay) (s .args .rdelay)) d r4 in
     let r2 = room-left at (headText (now (s .args .answer)) (s .args .nearest) (s .args .points) ++ valuesLine (bytes "left=") (now (s .args .left))) (valuesLine (bytes "right=") (now (s .args .right))) d r3 in
     let r1 = room-left at (headText (now (s .args .answer)) (s .args .nearest) (s .args .points)) (valuesLine (bytes "left=") (now (s .args .left))) d r2 in
@@ -31,7 +31,7 @@ values-line-requires c κs =
     let s = c .before .before .before .before .before .before .before .before .before .before in
     let d = now (s .args .out) in
     let at : ℕ = 0 in
-    let r4 : Room at (headText (now (s .args .answer)) (s .args .nearest) (s .args .points) ++ valuesLine (bytes "left=") (now (s .args .left)) ++ valuesLine (bytes "right=") (now (s .args .right)) ++ delaysText (s .args .ldelay) (s .args .rdelay)) d = s .pre in
+    let r4 : FitsAt at (headText (now (s .args .answer)) (s .args .nearest) (s .args .points) ++ valuesLine (bytes "left=") (now (s .args .left)) ++ valuesLine (bytes "right=") (now (s .args .right)) ++ delaysText (s .args .ldelay) (s .args .rdelay)) d = s .pre in
     let r3 = room-left at (headText (now (s .args .answer)) (s .args .nearest) (s .args .points) ++ valuesLine (bytes "left=") (now (s .args .left)) ++ valuesLine (bytes "right=") (now (s .args .right))) (delaysText (s .args .ldelay) (s .args .rdelay)) d r4 in
     let r2 = room-left at (headText (now (s .args .answer)) (s .args .nearest) (s .args .points) ++ valuesLine (bytes "left=") (now (s .args .left))) (valuesLine (bytes "right=") (now (s .args .right))) d r3 in
     let r1 = room-left at (headText (now (s .args .answer)) (s .args .nearest) (s .args .points)) (valuesLine (bytes "left=") (now (s .args .left))) d r2 in
@@ -49,7 +49,7 @@ values-line-requires-2 c κs =
     let s = c .before .before .before .before .before .before .before .before .before .before .before .before .before .before .before in
     let d = now (s .args .out) in
     let at : ℕ = 0 in
-    let r4 : Room at (headText (now (s .args .answer)) (s .args .nearest) (s .args .points) ++ valuesLine (bytes "left=") (now (s .args .left)) ++ valuesLine (bytes "right=") (now (s .args .right)) ++ delaysText (s .args .ldelay) (s .args .rdelay)) d = s .pre in
+    let r4 : FitsAt at (headText (now (s .args .answer)) (s .args .nearest) (s .args .points) ++ valuesLine (bytes "left=") (now (s .args .left)) ++ valuesLine (bytes "right=") (now (s .args .right)) ++ delaysText (s .args .ldelay) (s .args .rdelay)) d = s .pre in
     let r3 = room-left at (headText (now (s .args .answer)) (s .args .nearest) (s .args .points) ++ valuesLine (bytes "left=") (now (s .args .left)) ++ valuesLine (bytes "right=") (now (s .args .right))) (delaysText (s .args .ldelay) (s .args .rdelay)) d r4 in
     let r2 = room-left at (headText (now (s .args .answer)) (s .args .nearest) (s .args .points) ++ valuesLine (bytes "left=") (now (s .args .left))) (valuesLine (bytes "right=") (now (s .args .right))) d r3 in
     let r1 = room-left at (headText (now (s .args .answer)) (s .args .nearest) (s .args .points)) (valuesLine (bytes "left=") (now (s .args .left))) d r2 in
@@ -67,7 +67,7 @@ both-delays-requires c κs =
     let s = c .before .before .before .before .before .before .before .before .before .before .before .before .before .before .before .before .before .before .before in
     let d = now (s .args .out) in
     let at : ℕ = 0 in
-    let r4 : Room at (headText (now (s .args .answer)) (s .args .nearest) (s .args .points) ++ valuesLine (bytes "left=") (now (s .args .left)) ++ valuesLine (bytes "right=") (now (s .args .right)) ++ delaysText (s .args .ldelay) (s .args .rdelay)) d = s .pre in
+    let r4 : FitsAt at (headText (now (s .args .answer)) (s .args .nearest) (s .args .points) ++ valuesLine (bytes "left=") (now (s .args .left)) ++ valuesLine (bytes "right=") (now (s .args .right)) ++ delaysText (s .args .ldelay) (s .args .rdelay)) d = s .pre in
     let r3 = room-left at (headText (now (s .args .answer)) (s .args .nearest) (s .args .points) ++ valuesLine (bytes "left=") (now (s .args .left)) ++ valuesLine (bytes "right=") (now (s .args .right))) (delaysText (s .args .ldelay) (s .args .rdelay)) d r4 in
     let r2 = room-left at (headText (now (s .args .answer)) (s .args .nearest) (s .args .points) ++ valuesLine (bytes "left=") (now (s .args .left))) (valuesLine (bytes "right=") (now (s .args .right))) d r3 in
     let r1 = room-left at (headText (now (s .args .answer)) (s .args .nearest) (s .args .points)) (valuesLine (bytes "left=") (now (s .args .left))) d r2 in
@@ -91,7 +91,7 @@ returns c =
     let s = c .before .before .before .before .before .before .before .before .before .before .before .before .before .before .before .before .before .before .before .before .before .before in
     let d = now (s .args .out) in
     let at : ℕ = 0 in
-    let r4 : Room at (headText (now (s .args .answer)) (s .args .nearest) (s .args .points) ++ valuesLine (bytes "left=") (now (s .args .left)) ++ valuesLine (bytes "right=") (now (s .args .right)) ++ delaysText (s .args .ldelay) (s .args .rdelay)) d = s .pre in
+    let r4 : FitsAt at (headText (now (s .args .answer)) (s .args .nearest) (s .args .points) ++ valuesLine (bytes "left=") (now (s .args .left)) ++ valuesLine (bytes "right=") (now (s .args .right)) ++ delaysText (s .args .ldelay) (s .args .rdelay)) d = s .pre in
     let r3 = room-left at (headText (now (s .args .answer)) (s .args .nearest) (s .args .points) ++ valuesLine (bytes "left=") (now (s .args .left)) ++ valuesLine (bytes "right=") (now (s .args .right))) (delaysText (s .args .ldelay) (s .args .rdelay)) d r4 in
     let r2 = room-left at (headText (now (s .args .answer)) (s .args .nearest) (s .args .points) ++ valuesLine (bytes "left=") (now (s .args .left))) (valuesLine (bytes "right=") (now (s .args .right))) d r3 in
     let r1 = room-left at (headText (now (s .args .answer)) (s .args .nearest) (s .args .points)) (valuesLine (bytes "left=") (now (s .args .left))) d r2 in

@@ -2,7 +2,7 @@
 use mathlib.Core.Path.{refl}
 use native.Mathlib.Omega.{arith}
 use denote.Ref.{now}
-use Rattle.keys.specs.Words.{bytes}
+use Rattle.text.specs.Words.{bytes}
 use Rattle.blocks.specs.Blocks.{countLine, formError}
 use Rattle.blocks.proofs.Into.{front}
 use Rattle.blocks.proofs.form_error.Statement.{statement}

@@ -4,7 +4,7 @@ use mathlib.Core.Path.{subst, sym}
 use mathlib.Core.List.{List}
 use denote.Ref.{now}
 use Rattle.lookup.specs.declared.Located.{Located}
-use Rattle.blocks.specs.Put.{Room, Wrote}
+use Rattle.blocks.specs.Put.{FitsAt, Wrote}
 use Rattle.blocks.specs.Blocks.{foundText}
 use borrow.Author.Needs.{needs}
 use Rattle.blocks.proofs.found_block.Statement.{statement}
@@ -21,7 +21,7 @@ filter-block-requires c κs =
     let s = c .before .before .before .before .before .before .before .before in
     let a = s .args in
     let text : Located → List ℕ = λ f. foundText (now (a .answer)) f (a .points) (a .ldelay) (a .rdelay) (now (a .left)) (now (a .right)) in
-    subst (λ (f : Located). Room 0 (text f) (now (a .out))) (c .before .before .found .given .1) (s .pre)
+    subst (λ (f : Located). FitsAt 0 (text f) (now (a .out))) (c .before .before .found .given .1) (s .pre)
 
 enum-known-found-2 : tie.Need-enum-known-found-2
 enum-known-found-2 c = search needs
@@ -34,7 +34,7 @@ refused-block-requires c κs =
     let s = c .before .before .before .before .before .before .before .before in
     let a = s .args in
     let text : Located → List ℕ = λ f. foundText (now (a .answer)) f (a .points) (a .ldelay) (a .rdelay) (now (a .left)) (now (a .right)) in
-    subst (λ (f : Located). Room 0 (text f) (now (a .out))) (c .before .before .found2 .given .1) (s .pre)
+    subst (λ (f : Located). FitsAt 0 (text f) (now (a .out))) (c .before .before .found2 .given .1) (s .pre)
 
 same-length : tie.Need-same-length
 same-length c = search needs

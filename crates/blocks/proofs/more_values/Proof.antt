@@ -7,7 +7,7 @@ use lib.ListN.{length, take, getD}
 use lib.Seq.{take-all}
 use lib.Ieee.{nan}
 use denote.Ref.{now}
-use Rattle.blocks.specs.Put.{Room, Wrote}
+use Rattle.blocks.specs.Put.{FitsAt, Wrote}
 use Rattle.blocks.specs.Blocks.{valueText, afterOne}
 use Rattle.blocks.proofs.Into.{begin, room-right}
 use Rattle.blocks.proofs.Values.{nothing, room-next, turn}
@@ -16,7 +16,7 @@ use Rattle.blocks.proofs.more_values.Statement.{statement}
 use Rattle.blocks.proofs.more_values.Tie as tie
 
 abbrev Inv-loop : tie.InvT-loop
-Inv-loop xs out₀ at u₀ i₀ out u i = (i ≤ length xs) × Room at (afterOne xs) out₀ × (length out ≡ length out₀) × Wrote at (afterOne (take i xs)) out₀ u out
+Inv-loop xs out₀ at u₀ i₀ out u i = (i ≤ length xs) × FitsAt at (afterOne xs) out₀ × (length out ≡ length out₀) × Wrote at (afterOne (take i xs)) out₀ u out
 
 abbrev μ-loop : tie.MeasureT-loop
 μ-loop xs out₀ at u₀ i₀ out u i = length xs - i

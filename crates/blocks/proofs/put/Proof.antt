@@ -6,14 +6,14 @@ use native.Mathlib.Omega.{arith}
 use lib.ListN.{length, take}
 use lib.Seq.{take-all}
 use denote.Ref.{now}
-use Rattle.blocks.specs.Put.{into, Room, Wrote}
+use Rattle.blocks.specs.Put.{into, FitsAt, Wrote}
 use Rattle.blocks.proofs.Into.{into-nil, copied}
 use borrow.Author.Needs.{needs}
 use Rattle.blocks.proofs.put.Statement.{statement}
 use Rattle.blocks.proofs.put.Tie as tie
 
 abbrev Inv-loop : tie.InvT-loop
-Inv-loop word out₀ at i₀ out i = (i ≤ length word) × Room at word out₀ × (length out ≡ length out₀) × Wrote at (take i word) out₀ (at + i) out
+Inv-loop word out₀ at i₀ out i = (i ≤ length word) × FitsAt at word out₀ × (length out ≡ length out₀) × Wrote at (take i word) out₀ (at + i) out
 
 abbrev μ-loop : tie.MeasureT-loop
 μ-loop word out₀ at i₀ out i = length word - i

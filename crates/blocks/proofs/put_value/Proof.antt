@@ -7,7 +7,7 @@ use lib.ListN.{length, take, drop, length-take, length-drop}
 use denote.Ref.{now}
 use Rattle.lists.specs.Over.{over}
 use Rattle.text.specs.Print.{hexText}
-use Rattle.blocks.specs.Put.{into, Room, Wrote}
+use Rattle.blocks.specs.Put.{into, FitsAt, Wrote}
 use Rattle.blocks.specs.Blocks.{valueText}
 use Rattle.blocks.proofs.Into.{tail}
 use Rattle.blocks.proofs.Values.{value-length}

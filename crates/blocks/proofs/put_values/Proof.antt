@@ -6,7 +6,7 @@ use native.Mathlib.Omega.{arith}
 use lib.ListN.{length, take, drop, getD}
 use lib.Ieee.{nan}
 use denote.Ref.{now}
-use Rattle.blocks.specs.Put.{Room}
+use Rattle.blocks.specs.Put.{FitsAt}
 use Rattle.blocks.specs.Blocks.{valueText, afterOne, listText}
 use Rattle.blocks.proofs.Into.{begin, then, room-left, room-right}
 use Rattle.blocks.proofs.Values.{none, some}
@@ -35,7 +35,7 @@ put-value-requires c κs =
     let first = valueText (getD xs 0 nan) in
     let after = afterOne (take (length xs - 1) (drop 1 xs)) in
     let e : listText xs ≡ first ++ after = some xs nan (omega arith) in
-    let room : Room at (first ++ after) d = rw e at (s .pre) in
+    let room : FitsAt at (first ++ after) d = rw e at (s .pre) in
     room-left at first after d room
 
 sub-more-values : tie.Need-sub-more-values
@@ -56,7 +56,7 @@ more-values-requires c κs =
     let first = valueText (getD xs 0 nan) in
     let after = afterOne (take (length xs - 1) (drop 1 xs)) in
     let e : listText xs ≡ first ++ after = some xs nan (omega arith) in
-    let room : Room at (first ++ after) d = rw e at (s .pre) in
+    let room : FitsAt at (first ++ after) d = rw e at (s .pre) in
     let p = c .before .before .before .before .put-value in
     room-right at (p .result) first after d (p .last .1 .0) room (p .ensures)
 
@@ -72,7 +72,7 @@ returns-2 c =
     let first = valueText (getD xs 0 nan) in
     let after = afterOne (take (length xs - 1) (drop 1 xs)) in
     let e : listText xs ≡ first ++ after = some xs nan (omega arith) in
-    let room : Room at (first ++ after) d = rw e at (s .pre) in
+    let room : FitsAt at (first ++ after) d = rw e at (s .pre) in
     let p = c .before .before .before .before .before .before .before .put-value in
     let q = c .before .before .more-values in
     rw e (then at (p .result) (q .result) first after d (p .last .1 .0) (q .last .1 .0) room (p .ensures) (q .ensures))

@@ -4,25 +4,25 @@ use native.Mathlib.Omega.{arith}
 use lib.ListN.{length}
 use denote.Ref.{now}
 use borrow.Author.Needs.{needs}
-use Rattle.neighbors.specs.Neighbors.{entryOf, writing, rowOf, tableOf}
+use Rattle.neighbors.specs.Neighbors.{tableEntry, writing, rowOf, tableOf}
 use Rattle.neighbors.proofs.Around.{surrounds}
 use Rattle.neighbors.proofs.Table as table
 use Rattle.neighbors.proofs.fill_neighbors.Statement.{statement}
 use Rattle.neighbors.proofs.fill_neighbors.Tie as tie
 
 abbrev Inv-loop : tie.InvT-loop
-Inv-loop look m cartesian left right angle-step radius-step neighbors₀ arc reach₀ i₀ neighbors reach i =
-    (i ≤ m) × (length neighbors ≡ length neighbors₀)
-    × (writing (entryOf look m cartesian left right angle-step radius-step) (6 * m - 6 * i) (6 * i) neighbors ≡ writing (entryOf look m cartesian left right angle-step radius-step) (6 * m) 0 neighbors₀)
+Inv-loop look m cartesian left right angle-step radius-step neighbours₀ arc reach₀ i₀ neighbours reach i =
+    (i ≤ m) × (length neighbours ≡ length neighbours₀)
+    × (writing (tableEntry look m cartesian left right angle-step radius-step) (6 * m - 6 * i) (6 * i) neighbours ≡ writing (tableEntry look m cartesian left right angle-step radius-step) (6 * m) 0 neighbours₀)
 
 abbrev μ-loop : tie.MeasureT-loop
-μ-loop look m cartesian left right angle-step radius-step neighbors₀ arc reach₀ i₀ neighbors reach i = m - i
+μ-loop look m cartesian left right angle-step radius-step neighbours₀ arc reach₀ i₀ neighbours reach i = m - i
 
 loop-holds : tie.Need-loop-holds Inv-loop μ-loop
 loop-holds c =
     let a = c .before .before .before .before .before .args in
     let e : 6 * a .m - 6 * 0 ≡ 6 * a .m = omega arith in
-    (omega arith, refl, ap (λ (j : ℕ). writing (entryOf (a .look) (a .m) (now (a .cartesian)) (now (a .left)) (now (a .right)) (a .angle-step) (a .radius-step)) j 0 (now (a .neighbors))) e)
+    (omega arith, refl, ap (λ (j : ℕ). writing (tableEntry (a .look) (a .m) (now (a .cartesian)) (now (a .left)) (now (a .right)) (a .angle-step) (a .radius-step)) j 0 (now (a .neighbours))) e)
 
 clear-requires : tie.Need-clear-requires Inv-loop μ-loop
 clear-requires c κs = let h = c .before .before .before .before .before .before .before .pre in (c .loop-test .taken, h .0, h .1, h .2, h .3)
@@ -58,7 +58,7 @@ returns c =
     let j = 6 * a .m - 6 * i in
     let b = 6 * a .m - (6 * i + 6) in
     let ej : j ≡ 6 + b = omega (arith, t) in
-    table.part-refused (entryOf (a .look) (a .m) (now (a .cartesian)) (now (a .left)) (now (a .right)) (a .angle-step) (a .radius-step)) 6 b j (6 * i) (l .neighbors) ej _ _ (c .before .before .before .before .find-neighbors .ensures) _ _ (c .enum-told2 .given .1) ∙ l .inv .2
+    table.part-refused (tableEntry (a .look) (a .m) (now (a .cartesian)) (now (a .left)) (now (a .right)) (a .angle-step) (a .radius-step)) 6 b j (6 * i) (l .neighbours) ej _ _ (c .before .before .before .before .find-neighbors .ensures) _ _ (c .enum-told2 .given .1) ∙ l .inv .2
 
 add-i : tie.Need-add-i Inv-loop μ-loop
 add-i c = let t = c .before .before .before .before .before .before .before .before .loop-test .taken in let h = c .before .before .before .before .before .before .before .before .before .before .before .before .before .before .before .pre .3 in omega (arith, t, h)
@@ -79,7 +79,7 @@ loop-again c =
     let f : 6 * (i + 1) ≡ 6 * i + 6 = omega arith in (
       omega (arith, t),
       c .before .before .before .before .find-neighbors .kept .1 .1 .1 .1 .1 .1 .1 .1 .1 .0 ∙ l .inv .1,
-      rw f (table.part-fine (entryOf (a .look) (a .m) (now (a .cartesian)) (now (a .left)) (now (a .right)) (a .angle-step) (a .radius-step)) 6 b j (6 * i) (l .neighbors) ej _ _ (c .before .before .before .before .find-neighbors .ensures) (c .enum-told .given .1) ∙ l .inv .2),
+      rw f (table.part-fine (tableEntry (a .look) (a .m) (now (a .cartesian)) (now (a .left)) (now (a .right)) (a .angle-step) (a .radius-step)) 6 b j (6 * i) (l .neighbours) ej _ _ (c .before .before .before .before .find-neighbors .ensures) (c .enum-told .given .1) ∙ l .inv .2),
     )
 
 same-length-2 : tie.Need-same-length-2 Inv-loop μ-loop
@@ -91,7 +91,7 @@ returns-2 c =
     let a = c .before .before .before .before .before .before .before .args in
     let l = c .before .loop in
     let e : 6 * a .m - 6 * l .i ≡ 0 = omega arith in
-    table.at-end (entryOf (a .look) (a .m) (now (a .cartesian)) (now (a .left)) (now (a .right)) (a .angle-step) (a .radius-step)) (6 * a .m - 6 * l .i) (6 * l .i) _ e ∙ l .inv .2
+    table.at-end (tableEntry (a .look) (a .m) (now (a .cartesian)) (now (a .left)) (now (a .right)) (a .angle-step) (a .radius-step)) (6 * a .m - 6 * l .i) (6 * l .i) _ e ∙ l .inv .2
 
 pub fill-neighbors-spec : {M : Type 1} → statement M
 fill-neighbors-spec = tie.close (tie.spec Inv-loop μ-loop loop-holds clear-requires reach-after-requires find-neighbors-requires enum-told enum-told-2 same-length returns add-i loop-less loop-again same-length-2 returns-2)

@@ -4,10 +4,10 @@ use native.Mathlib.Omega.{arith}
 use denote.Ref.{now}
 use borrow.Author.Needs.{needs}
 use Rattle.points.specs.declared.Point3.{Point3}
-use Rattle.kdtree.specs.Nearest.{placeOf}
+use Rattle.kdtree.specs.Nearest.{placeFound}
 use Rattle.clearing.specs.declared.Nearest.{Nearest}
 use Rattle.clearing_laws.proofs.Listed.{nearest-below}
-use Rattle.lookup.specs.Lookup.{locatedAs, locateOf}
+use Rattle.lookup.specs.Lookup.{locatedBy, locateOf}
 use Rattle.neighbors.proofs.Around.{found-by}
 use Rattle.neighbors.proofs.locate_around.Statement.{statement}
 use Rattle.neighbors.proofs.locate_around.Tie as tie
@@ -57,7 +57,7 @@ unfolding locateOf
 returns-2 c =
     let o = c .before .before .before .before .before .before in
     let a = o .before .before .before .before .before .args in
-    c .nearest .ensures ∙ ap (λ (p : Point3). locatedAs (placeOf (now (a .cartesian)) (now (a .left)) (now (a .right)) (a .m) (a .look .bounds) p)) (o .before .normalize-radius .ensures)
+    c .nearest .ensures ∙ ap (λ (p : Point3). locatedBy (placeFound (now (a .cartesian)) (now (a .left)) (now (a .right)) (a .m) (a .look .bounds) p)) (o .before .normalize-radius .ensures)
 
 pub locate-around-spec : {M : Type 1} → statement M
 locate-around-spec =

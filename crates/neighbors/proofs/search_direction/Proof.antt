@@ -43,11 +43,11 @@ returns c =
     let ek : k ≡ suc j = omega (arith, t) in
     search.out (a .look) (a .m) (now (a .cartesian)) (now (a .left)) (now (a .right)) (a .own) (a .from) (a .step) k j i ek (z .result) (z .ensures) (sym (c .before .has-left .ensures) ∙ c .if1 .taken) ∙ l .inv .2
 
-turned-requires : tie.Need-turned-requires Inv-loop μ-loop
-turned-requires c κs = search needs
+turn-at-requires : tie.Need-turn-at-requires Inv-loop μ-loop
+turn-at-requires c κs = search needs
 
-turned-requires-2 : tie.Need-turned-requires-2 Inv-loop μ-loop
-turned-requires-2 c κs = search needs
+turn-at-requires-2 : tie.Need-turn-at-requires-2 Inv-loop μ-loop
+turn-at-requires-2 c κs = search needs
 
 along-requires : tie.Need-along-requires Inv-loop μ-loop
 along-requires c κs = search needs
@@ -75,7 +75,7 @@ returns-2 c =
     let j = a .cap - (i + 1) in
     let ek : k ≡ suc j = omega (arith, t) in
     let h : i + 1 ≤ 4294967296 = let g = l .inv .1 in omega (arith, t, g) in
-    let q = search.point-is (a .from) (a .step) i h (z .result) (z .ensures) (l .phi) (l .theta) (l .inv .3) (l .inv .4) (c .before .before .before .before .before .before .turned .result) (c .before .before .before .before .before .turned2 .result) (c .before .before .before .before .before .before .turned .ensures) (c .before .before .before .before .before .turned2 .ensures) (c .before .before .before .before .along .result) (c .before .before .before .before .along .ensures) in
+    let q = search.point-is (a .from) (a .step) i h (z .result) (z .ensures) (l .phi) (l .theta) (l .inv .3) (l .inv .4) (c .before .before .before .before .before .before .turn-at .result) (c .before .before .before .before .before .turn-at2 .result) (c .before .before .before .before .before .before .turn-at .ensures) (c .before .before .before .before .before .turn-at2 .ensures) (c .before .before .before .before .along .result) (c .before .before .before .before .along .ensures) in
     search.refused (a .look) (a .m) (now (a .cartesian)) (now (a .left)) (now (a .right)) (a .own) (a .from) (a .step) k j i ek (z .result) (z .ensures) (sym (c .before .before .before .before .before .before .before .before .has-left .ensures) ∙ c .before .before .before .before .before .before .before .if1 .left) (c .before .before .before .before .along .result) q (c .before .before .before .locate-around .result) (c .before .before .before .locate-around .ensures) _ _ (c .before .enum-told .given .1) (c .pass-on .result) (c .pass-on .ensures) ∙ l .inv .2
 
 returns-3 : tie.Need-returns-3 Inv-loop μ-loop
@@ -89,7 +89,7 @@ returns-3 c =
     let j = a .cap - (i + 1) in
     let ek : k ≡ suc j = omega (arith, t) in
     let h : i + 1 ≤ 4294967296 = let g = l .inv .1 in omega (arith, t, g) in
-    let q = search.point-is (a .from) (a .step) i h (z .result) (z .ensures) (l .phi) (l .theta) (l .inv .3) (l .inv .4) (c .before .before .before .before .before .before .before .turned .result) (c .before .before .before .before .before .before .turned2 .result) (c .before .before .before .before .before .before .before .turned .ensures) (c .before .before .before .before .before .before .turned2 .ensures) (c .before .before .before .before .before .along .result) (c .before .before .before .before .before .along .ensures) in
+    let q = search.point-is (a .from) (a .step) i h (z .result) (z .ensures) (l .phi) (l .theta) (l .inv .3) (l .inv .4) (c .before .before .before .before .before .before .before .turn-at .result) (c .before .before .before .before .before .before .turn-at2 .result) (c .before .before .before .before .before .before .before .turn-at .ensures) (c .before .before .before .before .before .before .turn-at2 .ensures) (c .before .before .before .before .before .along .result) (c .before .before .before .before .before .along .ensures) in
     search.other (a .look) (a .m) (now (a .cartesian)) (now (a .left)) (now (a .right)) (a .own) (a .from) (a .step) k j i ek (z .result) (z .ensures) (sym (c .before .before .before .before .before .before .before .before .before .has-left .ensures) ∙ c .before .before .before .before .before .before .before .before .if1 .left) (c .before .before .before .before .before .along .result) q (c .before .before .before .before .locate-around .result) (c .before .before .before .before .locate-around .ensures) _ (c .before .before .found .given .1) (c .if2 .taken) ∙ l .inv .2
 
 add-i : tie.Need-add-i Inv-loop μ-loop
@@ -109,12 +109,12 @@ loop-again c =
     let j = a .cap - (i + 1) in
     let ek : k ≡ suc j = omega (arith, t) in
     let h : i + 1 ≤ 4294967296 = let g = l .inv .1 in omega (arith, t, g) in
-    let q = search.point-is (a .from) (a .step) i h (z .result) (z .ensures) (l .phi) (l .theta) (l .inv .3) (l .inv .4) (c .before .before .before .before .before .before .before .turned .result) (c .before .before .before .before .before .before .turned2 .result) (c .before .before .before .before .before .before .before .turned .ensures) (c .before .before .before .before .before .before .turned2 .ensures) (c .before .before .before .before .before .along .result) (c .before .before .before .before .before .along .ensures) in (
+    let q = search.point-is (a .from) (a .step) i h (z .result) (z .ensures) (l .phi) (l .theta) (l .inv .3) (l .inv .4) (c .before .before .before .before .before .before .before .turn-at .result) (c .before .before .before .before .before .before .turn-at2 .result) (c .before .before .before .before .before .before .before .turn-at .ensures) (c .before .before .before .before .before .before .turn-at2 .ensures) (c .before .before .before .before .before .along .result) (c .before .before .before .before .before .along .ensures) in (
       omega (arith, t),
       l .inv .1,
       search.same (a .look) (a .m) (now (a .cartesian)) (now (a .left)) (now (a .right)) (a .own) (a .from) (a .step) k j i ek (z .result) (z .ensures) (sym (c .before .before .before .before .before .before .before .before .before .has-left .ensures) ∙ c .before .before .before .before .before .before .before .before .if1 .left) (c .before .before .before .before .before .along .result) q (c .before .before .before .before .locate-around .result) (c .before .before .before .before .locate-around .ensures) _ (c .before .before .found .given .1) (c .if2 .left) ∙ l .inv .2,
-      search.phi-on (a .from) (a .step) i h (z .result) (z .ensures) (l .phi) (l .theta) (l .inv .3) (l .inv .4) (c .before .before .before .before .before .before .before .turned .result) (c .before .before .before .before .before .before .turned2 .result) (c .before .before .before .before .before .before .before .turned .ensures) (c .before .before .before .before .before .before .turned2 .ensures),
-      search.theta-on (a .from) (a .step) i h (z .result) (z .ensures) (l .phi) (l .theta) (l .inv .3) (l .inv .4) (c .before .before .before .before .before .before .before .turned .result) (c .before .before .before .before .before .before .turned2 .result) (c .before .before .before .before .before .before .before .turned .ensures) (c .before .before .before .before .before .before .turned2 .ensures),
+      search.phi-on (a .from) (a .step) i h (z .result) (z .ensures) (l .phi) (l .theta) (l .inv .3) (l .inv .4) (c .before .before .before .before .before .before .before .turn-at .result) (c .before .before .before .before .before .before .turn-at2 .result) (c .before .before .before .before .before .before .before .turn-at .ensures) (c .before .before .before .before .before .before .turn-at2 .ensures),
+      search.theta-on (a .from) (a .step) i h (z .result) (z .ensures) (l .phi) (l .theta) (l .inv .3) (l .inv .4) (c .before .before .before .before .before .before .before .turn-at .result) (c .before .before .before .before .before .before .turn-at2 .result) (c .before .before .before .before .before .before .before .turn-at .ensures) (c .before .before .before .before .before .before .turn-at2 .ensures),
     )
 
 returns-4 : tie.Need-returns-4 Inv-loop μ-loop
@@ -125,4 +125,4 @@ returns-4 c =
     search.at-end (a .look) (a .m) (now (a .cartesian)) (now (a .left)) (now (a .right)) (a .own) (a .from) (a .step) (a .cap - l .i) (l .i) e ∙ l .inv .2
 
 pub search-direction-spec : {M : Type 1} → statement M
-search-direction-spec = tie.close (tie.spec Inv-loop μ-loop loop-holds add-step-to step-to-requires has-left-requires returns turned-requires turned-requires-2 along-requires locate-around-requires enum-known-found enum-told pass-on-requires returns-2 returns-3 add-i loop-less loop-again returns-4)
+search-direction-spec = tie.close (tie.spec Inv-loop μ-loop loop-holds add-step-to step-to-requires has-left-requires returns turn-at-requires turn-at-requires-2 along-requires locate-around-requires enum-known-found enum-told pass-on-requires returns-2 returns-3 add-i loop-less loop-again returns-4)

@@ -7,7 +7,7 @@ use Rattle.setread.specs.Kept.{Reached}
 use Rattle.loads.specs.Load.{workOf}
 use Rattle.blocks.proofs.Rooms.{error-room}
 use Rattle.settext.specs.declared.Step.{Step}
-use Rattle.queries.specs.Program.{listsOf, Ears, earsOf, stepEars}
+use Rattle.queries.specs.Program.{textLists, Ears, earsOf, stepEars}
 use Rattle.queries.specs.Sound.{Few}
 use Rattle.queries.proofs.Turns.{points-in, refusal-in, block-in, nothing, put, says, step-next, step-complete, step-query, step-bad}
 use borrow.Author.Needs.{needs}
@@ -50,7 +50,7 @@ form-error-requires c κs = omega (arith, error-room (c .before .before .step4 .
 returns : tie.Need-returns
 returns c =
     let a = c .before .before .before .before .before .before .before .before .before .before .before .before .before .before .args in
-    let d = listsOf (now (a .positions)) (now (a .responses)) (now (a .delays)) in
+    let d = textLists (now (a .positions)) (now (a .responses)) (now (a .delays)) in
     let w = workOf (now (a .left)) (now (a .right)) (now (a .neighbours)) (now (a .cartesian)) in
     let ears : Step → Ears = λ t. stepEars (a .f) t d w (earsOf (now (a .out-left)) (now (a .out-right))) in
     record { turn = says (step-next (a .f) d w (a .step) _ _ (c .moved-to .ensures) (c .before .before .step .given .1)) (nothing _); ears = sym (ap ears (c .before .before .step .given .1)) }
@@ -73,7 +73,7 @@ same-length-5 c = c .before .before .before .before .before .before .before .bef
 returns-2 : tie.Need-returns-2
 returns-2 c =
     let a = c .before .before .before .before .before .before .before .before .before .before .before .before .before .before .before .before .before .before .before .before .before .before .before .before .before .before .before .before .before .args in
-    let d = listsOf (now (a .positions)) (now (a .responses)) (now (a .delays)) in
+    let d = textLists (now (a .positions)) (now (a .responses)) (now (a .delays)) in
     let w = workOf (now (a .left)) (now (a .right)) (now (a .neighbours)) (now (a .cartesian)) in
     let ears : Step → Ears = λ t. stepEars (a .f) t d w (earsOf (now (a .out-left)) (now (a .out-right))) in
     let r = c .before .before .before .before .before .before .before .before .before .before .complete .ensures in
@@ -103,7 +103,7 @@ same-length-12 c = c .before .before .before .before .before .before .ask .kept 
 returns-3 : tie.Need-returns-3
 returns-3 c =
     let a = c .before .before .before .before .before .before .before .before .before .before .before .before .before .before .before .before .before .before .before .before .before .before .before .before .before .before .before .before .args in
-    let d = listsOf (now (a .positions)) (now (a .responses)) (now (a .delays)) in
+    let d = textLists (now (a .positions)) (now (a .responses)) (now (a .delays)) in
     let w = workOf (now (a .left)) (now (a .right)) (now (a .neighbours)) (now (a .cartesian)) in
     let ears : Step → Ears = λ t. stepEars (a .f) t d w (earsOf (now (a .out-left)) (now (a .out-right))) in
     let r = c .before .before .before .before .before .before .ask .ensures in
@@ -115,7 +115,7 @@ same-length-13 c = c .before .before .form-error .kept .1 .0
 returns-4 : tie.Need-returns-4
 returns-4 c =
     let a = c .before .before .before .before .before .before .before .before .before .before .before .before .before .before .before .before .before .args in
-    let d = listsOf (now (a .positions)) (now (a .responses)) (now (a .delays)) in
+    let d = textLists (now (a .positions)) (now (a .responses)) (now (a .delays)) in
     let w = workOf (now (a .left)) (now (a .right)) (now (a .neighbours)) (now (a .cartesian)) in
     let ears : Step → Ears = λ t. stepEars (a .f) t d w (earsOf (now (a .out-left)) (now (a .out-right))) in
     let r = c .before .before .form-error .ensures in

@@ -1,7 +1,7 @@
 -- `queries::moved_to` meets its contract. Assumes nothing.
 use mathlib.Core.Path.{sym, ap}
 use Rattle.queries.specs.declared.Phase.{Phase}
-use Rattle.queries.specs.Program.{moved}
+use Rattle.queries.specs.Program.{phaseAfter}
 use borrow.Author.Needs.{needs}
 use Rattle.queries.proofs.moved_to.Statement.{statement}
 use Rattle.queries.proofs.moved_to.Tie as tie
@@ -16,10 +16,10 @@ enum-told-2 : tie.Need-enum-told-2
 enum-told-2 c = search needs
 
 returns : tie.Need-returns
-returns c = sym (ap (λ (f : Phase). moved f (c .before .before .args .s)) (c .enum-told .given .1))
+returns c = sym (ap (λ (f : Phase). phaseAfter f (c .before .before .args .s)) (c .enum-told .given .1))
 
 returns-2 : tie.Need-returns-2
-returns-2 c = sym (ap (λ (f : Phase). moved f (c .before .before .before .args .s)) (c .before .f .given .1))
+returns-2 c = sym (ap (λ (f : Phase). phaseAfter f (c .before .before .before .args .s)) (c .before .f .given .1))
 
 returns-3 : tie.Need-returns-3
 returns-3 c = search needs

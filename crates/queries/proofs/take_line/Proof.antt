@@ -2,7 +2,7 @@
 use mathlib.Core.Path.{ap, _∙_}
 use denote.Ref.{now}
 use Rattle.loads.specs.Load.{workOf}
-use Rattle.queries.specs.Program.{Turn, listsOf}
+use Rattle.queries.specs.Program.{Turn, textLists}
 use Rattle.queries.proofs.Turns.{of-kept, renamed, line-few, line-turn, line-ears-of}
 use Rattle.queries.proofs.take_line.Statement.{statement}
 use Rattle.queries.proofs.take_line.Tie as tie
@@ -17,7 +17,7 @@ by-step-requires : tie.Need-by-step-requires
 by-step-requires c κs =
     let s = c .before .before .before .before .before .before .before .before .before .before .before .before .before .before .before .before .before .before .before .before .before .before .before .before .before .before .before .before .before .before .before .before in
     let a = s .args in
-    let d = listsOf (now (a .positions)) (now (a .responses)) (now (a .delays)) in
+    let d = textLists (now (a .positions)) (now (a .responses)) (now (a .delays)) in
     let t = c .before .before .before .before .before .before .before .before .before .before .before .before .before .before .before .before .take-line in (
       line-few (a .f) d (now (a .line)) _ _ (t .ensures) (c .before .before .before .before .before .before .before .before .before .before .before .before .before .before .before .before .before .before .before .before .state-in .ensures) (s .pre .0),
       record { positions = of-kept (s .pre .1 .positions) (t .kept .1 .1 .0); delays = of-kept (s .pre .1 .delays) (t .kept .1 .1 .1 .1 .0); left = s .pre .1 .left; right = s .pre .1 .right; out = s .pre .1 .out },
@@ -57,7 +57,7 @@ returns : tie.Need-returns
 returns c =
     let s = c .before .before .before .before .before .before .before .before .before .before .before .before .before .before .before .before .before .before .before .before .before .before .before .before .before .before .before .before .before .before .before .before .before .before .before .before .before .before .before .before .before .before .before .before .before .before .before in
     let a = s .args in
-    let d = listsOf (now (a .positions)) (now (a .responses)) (now (a .delays)) in
+    let d = textLists (now (a .positions)) (now (a .responses)) (now (a .delays)) in
     let t = c .before .before .before .before .before .before .before .before .before .before .before .before .before .before .before .before .before .before .before .before .before .before .before .before .before .before .before .before .before .before .before .take-line in
     let w = workOf (now (a .left)) (now (a .right)) (now (a .neighbours)) (now (a .cartesian)) in
     let r = c .before .before .before .before .before .before .before .before .before .before .before .before .before .before .by-step .ensures in

@@ -7,9 +7,9 @@ use lib.ListN.{take, drop}
 use lib.Seq.{length-take-le}
 use denote.Ref.{now}
 use Rattle.loads.specs.Load.{workOf}
-use Rattle.queries.specs.Program.{Session, session, listsOf, earsOf}
+use Rattle.queries.specs.Program.{Session, session, textLists, earsOf}
 use Rattle.queries.specs.Sound.{SoundPhase}
-use Rattle.queries.specs.Machine.{between, Advance}
+use Rattle.queries.specs.Machine.{betweenBytes, Advance}
 use Rattle.queries.proofs.Keeps.{turn-sound}
 use Rattle.queries.proofs.Turns.{used-in, nothing, renamed, silent-ears, all-over, found-line, found-more, a-line, line-ears, no-line, more-ears}
 use borrow.Author.Needs.{needs}
@@ -23,16 +23,16 @@ returns : tie.Need-returns
 returns c =
     let s = c .before .before .before .before .before .before .before .before .before .before .before .before .before .before in
     let a = s .args in
-    let d = listsOf (now (a .positions)) (now (a .responses)) (now (a .delays)) in
+    let d = textLists (now (a .positions)) (now (a .responses)) (now (a .delays)) in
     let w = workOf (now (a .left)) (now (a .right)) (now (a .neighbours)) (now (a .cartesian)) in
     let k = session (a .t .phase) d w in
     let o = sym (c .before .is-over .ensures) ∙ c .if1 .taken in
-    let v = all-over 40000 (between k (take (a .t .used) (now (a .buf)))) (drop (a .at) (now (a .chunk))) (now (a .chunk)) o in
+    let v = all-over 40000 (betweenBytes k (take (a .t .used) (now (a .buf)))) (drop (a .at) (now (a .chunk))) (now (a .chunk)) o in
     record {
       place = ap (λ (v : Advance). v .place) v;
       left = ap (λ (v : Advance). v .left) v;
       printed = renamed (ap (λ (v : Advance). v .printed) v) (nothing (now (a .out)));
-      ears = silent-ears 40000 (between k (take (a .t .used) (now (a .buf)))) (drop (a .at) (now (a .chunk))) _ o;
+      ears = silent-ears 40000 (betweenBytes k (take (a .t .used) (now (a .buf)))) (drop (a .at) (now (a .chunk))) _ o;
       sound = s .pre .1;
       next = omega arith;
       moves = λ h. h;
@@ -103,7 +103,7 @@ returns-2 : tie.Need-returns-2
 returns-2 c =
     let s = c .before .before .before .before .before .before .before .before .before .before .before .before .before .before .before .before .before .before .before .before .before .before .before .before .before .before .before .before .before .before .before .before .before .before .before .before .before .before .before .before .before .before .before .before .before .before .before .before .before .before .before .before .before in
     let a = s .args in
-    let d = listsOf (now (a .positions)) (now (a .responses)) (now (a .delays)) in
+    let d = textLists (now (a .positions)) (now (a .responses)) (now (a .delays)) in
     let w = workOf (now (a .left)) (now (a .right)) (now (a .neighbours)) (now (a .cartesian)) in
     let k = session (a .t .phase) d w in
     let n = c .before .before .before .before .before .before .before .before .before .before .before .before .before .before .before .before .before .before .before .before .before .before .before .before .before .before .before .before .before .before .before .before .before .before .before .before .before .next-line in
@@ -112,7 +112,7 @@ returns-2 c =
     let t = c .before .before .before .before .before .before .before .before .before .before .before .before .before .before .before .before .before .before .before .before .take-line .ensures in
     let v = rw (s .pre .2) at (a-line (now (a .buf)) (n .last .1 .1 .0) (now (a .chunk)) k (a .at) (a .t .used) (n .result) (sym (c .before .before .before .before .before .before .before .before .before .before .before .before .before .before .before .before .before .before .before .before .before .before .before .before .before .before .before .before .before .before .before .before .before .before .before .before .before .before .before .before .is-over .ensures) ∙ c .before .before .before .before .before .before .before .before .before .before .before .before .before .before .before .before .before .before .before .before .before .before .before .before .before .before .before .before .before .before .before .before .before .before .before .before .before .before .before .if1 .left) (n .ensures .same) (g .0 .0) (g .0 .1 .0) (g .1)) in
     record {
-      place = ap (λ (k : Session). between k []) (t .turn .session) ∙ ap (λ (v : Advance). v .place) v;
+      place = ap (λ (k : Session). betweenBytes k []) (t .turn .session) ∙ ap (λ (v : Advance). v .place) v;
       left = ap (λ (v : Advance). v .left) v;
       printed = renamed (ap (λ (v : Advance). v .printed) v) (t .turn .printed);
       ears = t .ears ∙ (rw (s .pre .2) at (line-ears (now (a .buf)) (n .last .1 .1 .0) (now (a .chunk)) k (a .at) (a .t .used) (n .result) (sym (c .before .before .before .before .before .before .before .before .before .before .before .before .before .before .before .before .before .before .before .before .before .before .before .before .before .before .before .before .before .before .before .before .before .before .before .before .before .before .before .before .is-over .ensures) ∙ c .before .before .before .before .before .before .before .before .before .before .before .before .before .before .before .before .before .before .before .before .before .before .before .before .before .before .before .before .before .before .before .before .before .before .before .before .before .before .before .if1 .left) (n .ensures .same) (g .0 .0) (g .0 .1 .0) (g .1) (earsOf (now (a .out-left)) (now (a .out-right)))));
@@ -128,7 +128,7 @@ returns-3 : tie.Need-returns-3
 returns-3 c =
     let s = c .before .before .before .before .before .before .before .before .before .before .before .before .before .before .before .before .before .before .before .before .before in
     let a = s .args in
-    let d = listsOf (now (a .positions)) (now (a .responses)) (now (a .delays)) in
+    let d = textLists (now (a .positions)) (now (a .responses)) (now (a .delays)) in
     let w = workOf (now (a .left)) (now (a .right)) (now (a .neighbours)) (now (a .cartesian)) in
     let k = session (a .t .phase) d w in
     let n = c .before .before .before .before .before .next-line in

@@ -5,12 +5,12 @@ use lib.ListN.{length, take, drop}
 use lib.Seq.{length-take-le}
 use mathlib.Core.Path.{_≡_, refl, sym, ap, subst, _∙_}
 use denote.Ref.{now}
-use Rattle.lines.specs.declared.Cut.{Cut}
-use Rattle.lines.specs.Lines.{Within}
+use Rattle.text.specs.declared.Cut.{Cut}
+use Rattle.text.specs.Lines.{CutWithin}
 use Rattle.settext.specs.declared.State.{State}
-use Rattle.settext.specs.Lines.{lineOf, plain}
+use Rattle.settext.specs.Lines.{lineOf, afterAs}
 use Rattle.settext.proofs.Laws.{listed}
-use Rattle.setread.specs.Text.{at, chunkOf, stateOf}
+use Rattle.setread.specs.Text.{readAt, chunkOf, stateOf}
 use Rattle.setread.proofs.Steps.{a-line, no-line, over-now, used-up}
 use borrow.Author.Needs.{needs}
 use Rattle.setread.proofs.take_chunk.Statement.{statement}
@@ -19,7 +19,7 @@ use Rattle.setread.proofs.take_chunk.Tie as tie
 abbrev Inv-loop : tie.InvT-loop
 Inv-loop chunk buf₀ positions₀ responses₀ delays₀ at₀ u₀ k₀ buf positions responses delays i u k =
     (i ≤ length chunk) × (u ≤ length buf₀) × (length buf ≡ length buf₀) × (length positions ≡ length positions₀) × (length responses ≡ length responses₀) × (length delays ≡ length delays₀)
-    × (chunkOf (length buf₀) (at k (listed positions responses delays) (take u buf)) (drop i chunk) ≡ chunkOf (length buf₀) (at k₀ (listed positions₀ responses₀ delays₀) (take u₀ buf₀)) chunk)
+    × (chunkOf (length buf₀) (readAt k (listed positions responses delays) (take u buf)) (drop i chunk) ≡ chunkOf (length buf₀) (readAt k₀ (listed positions₀ responses₀ delays₀) (take u₀ buf₀)) chunk)
 
 abbrev μ-loop : tie.MeasureT-loop
 μ-loop chunk buf₀ positions₀ responses₀ delays₀ at₀ u₀ k₀ buf positions responses delays i u k = length chunk - i
@@ -28,12 +28,12 @@ abbrev μ-loop : tie.MeasureT-loop
 found : (c : tie.After-known-told Inv-loop μ-loop) → let l = c .before .before .before .before .before .before .before .before .before .before in let g = c .before .next .given .0 in (g .1 .0 ≤ length (l .loop .buf)) × (l .loop .at < g .0) × (g .0 ≤ length (now (c .before .before .before .before .before .before .before .before .before .before .before .before .before .before .before .before .args .chunk)))
 found c =
     let l = c .before .before .before .before .before .before .before .before .before .before in
-    subst (λ (r : Cut). Within r (l .loop .at) (length (l .loop .buf)) (length (now (c .before .before .before .before .before .before .before .before .before .before .before .before .before .before .before .before .args .chunk)))) (c .before .next .given .1) (c .before .before .before .before .before .next-line .ensures .within)
+    subst (λ (r : Cut). CutWithin r (l .loop .at) (length (l .loop .buf)) (length (now (c .before .before .before .before .before .before .before .before .before .before .before .before .before .before .before .before .args .chunk)))) (c .before .next .given .1) (c .before .before .before .before .before .next-line .ensures .within)
 
 wants : (c : tie.After-known-told2 Inv-loop μ-loop) → let l = c .before .before .before .before .before .before .before .before .before .before in c .before .n .given .0 .0 ≤ length (l .loop .buf)
 wants c =
     let l = c .before .before .before .before .before .before .before .before .before .before in
-    subst (λ (r : Cut). Within r (l .loop .at) (length (l .loop .buf)) (length (now (c .before .before .before .before .before .before .before .before .before .before .before .before .before .before .before .before .args .chunk)))) (c .before .n .given .1) (c .before .before .before .before .before .next-line .ensures .within)
+    subst (λ (r : Cut). CutWithin r (l .loop .at) (length (l .loop .buf)) (length (now (c .before .before .before .before .before .before .before .before .before .before .before .before .before .before .before .before .args .chunk)))) (c .before .n .given .1) (c .before .before .before .before .before .next-line .ensures .within)
 
 loop-holds : tie.Need-loop-holds Inv-loop μ-loop
 loop-holds c = (search needs, search needs, search needs, search needs, search needs, search needs, refl)
@@ -93,14 +93,14 @@ loop-again c =
     let t = c .before .before .before .before .before .before .take-line in
     let g = c .before .before .before .before .before .before .before .before .before .before .before .before .before .next .given in
     let d′ = listed (t .last .1 .1 .0) (t .last .1 .1 .1 .0) (t .last .1 .1 .1 .1 .0) in
-    let e : plain (t .result) d′ ≡ lineOf (stateOf (l .loop .k)) (take (g .0 .1 .0) (n .last .1 .1 .0)) d = t .ensures ∙ ap (λ (s : State). lineOf s (take (g .0 .1 .0) (n .last .1 .1 .0)) d) (c .before .before .before .before .before .before .before .before .before .before .before .state-of .ensures) in (
+    let e : afterAs (t .result) d′ ≡ lineOf (stateOf (l .loop .k)) (take (g .0 .1 .0) (n .last .1 .1 .0)) d = t .ensures ∙ ap (λ (s : State). lineOf s (take (g .0 .1 .0) (n .last .1 .1 .0)) d) (c .before .before .before .before .before .before .before .before .before .before .before .state-of .ensures) in (
       found (c .before .before .before .before .before .before .before .before .before .before .before .before) .2,
       search needs,
       omega (arith, n .kept .1 .1 .0),
       omega (arith, t .kept .1 .1 .0),
       omega (arith, t .kept .1 .1 .1 .0),
       omega (arith, t .kept .1 .1 .1 .1 .0),
-      sym (a-line (length (now (a .buf))) (l .loop .buf) (n .last .1 .1 .0) (now (a .chunk)) (l .loop .k) d (l .loop .at) (l .loop .u) (n .result) (l .loop .inv .2) (sym (c .before .before .before .before .before .before .before .before .before .before .before .before .before .before .before .before .before .before .before .before .is-bad .ensures) ∙ c .before .before .before .before .before .before .before .before .before .before .before .before .before .before .before .before .before .before .before .if1 .left) (n .ensures .same) (g .0 .0) (g .0 .1 .0) (g .1) (plain (t .result) d′) e)
+      sym (a-line (length (now (a .buf))) (l .loop .buf) (n .last .1 .1 .0) (now (a .chunk)) (l .loop .k) d (l .loop .at) (l .loop .u) (n .result) (l .loop .inv .2) (sym (c .before .before .before .before .before .before .before .before .before .before .before .before .before .before .before .before .before .before .before .before .is-bad .ensures) ∙ c .before .before .before .before .before .before .before .before .before .before .before .before .before .before .before .before .before .before .before .if1 .left) (n .ensures .same) (g .0 .0) (g .0 .1 .0) (g .1) (afterAs (t .result) d′) e)
           ∙ l .loop .inv .6,
     )
 

@@ -2,7 +2,7 @@
 use mathlib.Core.Path.{refl, sym, ap, _∙_}
 use lib.Ieee.{Float}
 use Rattle.text.specs.Values.{valueOf}
-use Rattle.keys.specs.Words.{bytes}
+use Rattle.text.specs.Words.{bytes}
 use Rattle.settext.specs.State.{wentOf, setAstep}
 use Rattle.settext.specs.Lines.{gives, astepLine}
 use borrow.Author.Needs.{needs}

@@ -1,6 +1,6 @@
 -- `settext::form_line` meets its contract. Assumes nothing.
 use mathlib.Core.Path.{refl, sym, _∙_}
-use Rattle.keys.specs.Words.{bytes}
+use Rattle.text.specs.Words.{bytes}
 use Rattle.settext.specs.Lines.{formLine}
 use Rattle.settext.proofs.form_line.Statement.{statement}
 use Rattle.settext.proofs.form_line.Tie as tie

@@ -2,11 +2,11 @@
 use Prim.Native.Nat.{ℕ}
 use mathlib.Core.Path.{refl, sym, ap, _∙_}
 use denote.Ref.{now}
-use Rattle.keys.specs.Words.{bytes}
+use Rattle.text.specs.Words.{bytes}
 use Rattle.settext.specs.State.{wentOf, setKind}
 use Rattle.settext.specs.Lines.{kindOf, kindLine}
 use Rattle.text.proofs.Reading.{begins-length}
-use Rattle.keys.proofs.Laws.{tail}
+use Rattle.text.proofs.Keys.{tail}
 use borrow.Author.Needs.{needs}
 use Rattle.settext.proofs.kind_line.Statement.{statement}
 use Rattle.settext.proofs.kind_line.Tie as tie

@@ -1,6 +1,6 @@
 -- `settext::kind_of` meets its contract. Assumes nothing.
 use mathlib.Core.Path.{refl, sym, _∙_}
-use Rattle.keys.specs.Words.{bytes}
+use Rattle.text.specs.Words.{bytes}
 use Rattle.settext.specs.Lines.{kindOf}
 use Rattle.settext.proofs.kind_of.Statement.{statement}
 use Rattle.settext.proofs.kind_of.Tie as tie

@@ -2,7 +2,7 @@
 use mathlib.Core.Path.{refl, sym, ap, _∙_}
 use native.Mathlib.Omega.{arith}
 use denote.Ref.{now}
-use Rattle.keys.specs.Words.{bytes}
+use Rattle.text.specs.Words.{bytes}
 use Rattle.settext.specs.State.{setM}
 use Rattle.settext.specs.Lines.{gives, mLine}
 use Rattle.settext.proofs.Laws.{behind-within}

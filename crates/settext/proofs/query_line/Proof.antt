@@ -1,7 +1,7 @@
 -- `settext::query_line` meets its contract. Assumes nothing.
 use Prim.Native.Nat.{ℕ}
 use mathlib.Core.Path.{refl, sym, ap, _∙_}
-use Rattle.keys.specs.Words.{bytes}
+use Rattle.text.specs.Words.{bytes}
 use Rattle.settext.specs.declared.Step.the-variants.{Query}
 use Rattle.settext.specs.State.{setLines}
 use Rattle.settext.specs.Lines.{asked, queryLine}

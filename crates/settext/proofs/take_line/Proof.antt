@@ -2,7 +2,7 @@
 use mathlib.Core.Path.{refl, sym, _∙_}
 use mir.Facts.{fits-16-64}
 use denote.Ref.{now}
-use Rattle.keys.specs.Words.{bytes}
+use Rattle.text.specs.Words.{bytes}
 use Rattle.settext.proofs.Laws.{pos-fits, product-fits, ir-fits, listed, same, a-key, a-pos, an-ir, a-delay, a-query}
 use Rattle.settext.proofs.take_line.Statement.{statement}
 use Rattle.settext.proofs.take_line.Tie as tie

@@ -1,7 +1,7 @@
 -- `settext::total` meets its contract. Assumes nothing.
 use mathlib.Core.Path.{refl}
 use native.Mathlib.Omega.{arith}
-use Rattle.settext.specs.State.{totalOf}
+use Rattle.settext.specs.State.{lineCount}
 use Rattle.settext.proofs.Laws.{product16}
 use borrow.Author.Needs.{needs}
 use Rattle.settext.proofs.total.Statement.{statement}
@@ -35,7 +35,7 @@ add-result-3 c =
     omega (arith, product16 (s .m) (s .r) (omega arith) (omega arith))
 
 returns : tie.Need-returns
-unfolding totalOf
+unfolding lineCount
 returns c = refl
 
 pub total-spec : {M : Type 1} → statement M

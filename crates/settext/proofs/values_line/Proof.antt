@@ -4,7 +4,7 @@ use mathlib.Core.Bool.{Bool}
 use lib.ListN.{length, drop}
 use denote.Ref.{now}
 use Rattle.text.specs.Values.{stored}
-use Rattle.settext.specs.Lines.{valuesLine, valuesList}
+use Rattle.settext.specs.Lines.{valuesStep, valuesList}
 use borrow.Author.Needs.{needs}
 use Rattle.settext.proofs.values_line.Statement.{statement}
 use Rattle.settext.proofs.values_line.Tie as tie
@@ -19,7 +19,7 @@ same-length : tie.Need-same-length
 same-length c = search needs
 
 returns : tie.Need-returns
-unfolding valuesLine valuesList
+unfolding valuesStep valuesList
 returns c =
     let a = c .before .before .before .before .before .before .before .before .before .args in
     let v = c .before .before .before .before .values-behind in
@@ -35,7 +35,7 @@ same-length-2 : tie.Need-same-length-2
 same-length-2 c = search needs
 
 returns-2 : tie.Need-returns-2
-unfolding valuesLine valuesList
+unfolding valuesStep valuesList
 returns-2 c =
     let a = c .before .before .before .before .before .before .before .before .before .args in
     let v = c .before .before .before .before .values-behind in
