@@ -17,18 +17,18 @@ use Rattle.load_laws.specs.Load.{Given, portFind}
 -- `load` was given g, answered `look` and left the lists w; the query is q
 module _ (g : Given) (w : Work) (look : Lookup) (q : Point3) where
   -- the query as the radius clamp leaves it: distances are measured from there
-  abbrev pub asked : Point3
-  asked = clampedBy look q
+  abbrev pub clampedQuery : Point3
+  clampedQuery = clampedBy look q
 
   -- a measurement, all of them in place order, and as the unpruned walk over the links comes to them
-  abbrev pub measured : ℕ → Numbered
-  measured k = placed (w .cartesian) k
+  abbrev pub measuredAt : ℕ → Numbered
+  measuredAt k = placed (w .cartesian) k
 
   abbrev pub all : List Numbered
   all = placedFrom (w .cartesian) (g .sizes .m) 0
 
-  abbrev pub met : List Numbered
-  met = walked (w .cartesian) (g .sizes .m) (w .left) (w .right) asked
+  abbrev pub walkMeets : List Numbered
+  walkMeets = walked (w .cartesian) (g .sizes .m) (w .left) (w .right) clampedQuery
 
   pub record FindsNearest : Type 0 where
     -- a number below M is answered: nothing is refused
@@ -36,10 +36,10 @@ module _ (g : Given) (w : Work) (look : Lookup) (q : Point3) where
     pub finds : portFind g w look q ≡ At found
     pub below : found < g .sizes .m
     -- each rounded squared distance is a number, +infinity where it overflows, and none is smaller than that of the one found
-    pub distances : (k : ℕ) → k < g .sizes .m → T (number (distTo asked (measured k)))
-    pub least : (k : ℕ) → k < g .sizes .m → NotNearer asked (measured k) (measured found)
+    pub distances : (k : ℕ) → k < g .sizes .m → T (number (distTo clampedQuery (measuredAt k)))
+    pub least : (k : ℕ) → k < g .sizes .m → NotNearer clampedQuery (measuredAt k) (measuredAt found)
     -- a measurement that all others are farther than is found
-    pub alone : (k : ℕ) → k < g .sizes .m → ((j : ℕ) → j < g .sizes .m → (j ≡ k → ⊥) → Nearer asked (measured k) (measured j)) → found ≡ k
+    pub alone : (k : ℕ) → k < g .sizes .m → ((j : ℕ) → j < g .sizes .m → (j ≡ k → ⊥) → Nearer clampedQuery (measuredAt k) (measuredAt j)) → found ≡ k
     -- of several as near, the first that the unpruned walk meets, which comes to each measurement once; the root, number 0, before all
-    pub meets : Reordered all met
-    pub first-met : FirstNearest asked (measured found) (measured 0 ∷ met)
+    pub meets : Reordered all walkMeets
+    pub first-met : FirstNearest clampedQuery (measuredAt found) (measuredAt 0 ∷ walkMeets)

@@ -23,7 +23,7 @@ use Rattle.queries.proofs.Whole.{program}
 use Rattle.sofaquery.specs.declared.Flow.{Flow}
 use Rattle.sofaquery.specs.declared.Flow.the-variants.{More, Ended, Unread, Unwritten}
 use Rattle.sofaquery.specs.declared.Went.{Went}
-use Rattle.sofaquery.specs.Calls.{goesOn, readFlow, afterRead, writeFlow, afterWrite, Held, held, heldAfter, Stand, standAt, usedUp, reading, turnOf, writing, Call, read, write, Ran, none, reads, turns, startStand, Made, readIn, writtenIn}
+use Rattle.sofaquery.specs.Calls.{goesOn, readFlow, afterRead, writeFlow, afterWrite, ListsHeld, held, heldAfter, Stand, standAt, usedUp, reading, turnAt, wroteTurn, Call, read, write, Ran, none, reads, turns, startStand, Made, readIn, writtenIn}
 
 -- ---- by what a call answered
 
@@ -70,9 +70,9 @@ module _ (left left′ : ℕ) (fewer : left ≡ left′ + 1) {a : Stand} (m : Ma
     read-more : (got : ℤ) (bytes : List ℕ) → usedUp (a .rest) ≡ true → Made left′ (reading a got bytes)
     read-more got bytes f = record { calls = m .calls ++ (read got bytes ∷ []); ran = then (m .ran) (reads got bytes going f none); counted = one-more (read got bytes) }
 
-    turn-more : (ok : Bool) → usedUp (a .rest) ≡ false → Made left′ (writing a ok)
+    turn-more : (ok : Bool) → usedUp (a .rest) ≡ false → Made left′ (wroteTurn a ok)
     turn-more ok f =
-        record { calls = m .calls ++ (write (turnOf a .printed) ok ∷ []); ran = then (m .ran) (turns ok going f none); counted = one-more (write (turnOf a .printed) ok) }
+        record { calls = m .calls ++ (write (turnAt a .printed) ok ∷ []); ran = then (m .ran) (turns ok going f none); counted = one-more (write (turnAt a .printed) ok) }
 
 used-drop : (xs : List ℕ) (n : ℕ) → usedUp (drop n xs) ≡ leb (length xs) n
 used-drop xs n = by-length (drop n xs) (length xs) n (length-drop n xs)
@@ -119,7 +119,7 @@ pub same-held : {a b : At Session} {e f : Ears} {o p : List ℕ} → a ≡ b →
 same-held x y z = cc
 
 -- a call more, over the bytes of the chunk that it has, from a place on
-module _ (left left′ : ℕ) (fewer : left ≡ left′ + 1) (a : Held) (chunk : List ℕ) (have at : ℕ) (room : have ≤ length chunk) (flow : Flow)
+module _ (left left′ : ℕ) (fewer : left ≡ left′ + 1) (a : ListsHeld) (chunk : List ℕ) (have at : ℕ) (room : have ≤ length chunk) (flow : Flow)
     (m : Made left (standAt a (drop at (take have chunk)) flow)) (going : goesOn flow ≡ true) where
   len : length (take have chunk) ≡ have
   len = length-take-le have chunk room
@@ -127,23 +127,23 @@ module _ (left left′ : ℕ) (fewer : left ≡ left′ + 1) (a : Held) (chunk :
   used : (n : ℕ) → usedUp (drop n (take have chunk)) ≡ leb have n
   used n = used-drop (take have chunk) n ∙ ap (λ (k : ℕ). leb k n) len
 
-  pub chunk-more : have ≤ at → (place : Run → Held) (t : Run) → place t ≡ a → (got : ℤ) (bytes : List ℕ) (w : Went) → w ≡ afterRead t got
+  pub chunk-more : have ≤ at → (place : Run → ListsHeld) (t : Run) → place t ≡ a → (got : ℤ) (bytes : List ℕ) (w : Went) → w ≡ afterRead t got
       → Made left′ (standAt (place (w .run)) (drop (w .at) (take (w .have) bytes)) (w .flow))
   unfolding afterRead
   chunk-more h place t p got bytes w e =
       let m1 : Made left′ (standAt a (take (clamped got 65536) bytes) (readFlow got)) = read-more left left′ fewer m going got bytes (used at ∙ le-leb have at h) in
-      let m2 : Made left′ (standAt (place t) (take (clamped got 65536) bytes) (readFlow got)) = subst (λ (b : Held). Made left′ (standAt b (take (clamped got 65536) bytes) (readFlow got))) (sym p) m1 in
+      let m2 : Made left′ (standAt (place t) (take (clamped got 65536) bytes) (readFlow got)) = subst (λ (b : ListsHeld). Made left′ (standAt b (take (clamped got 65536) bytes) (readFlow got))) (sym p) m1 in
       subst (λ (w : Went). Made left′ (standAt (place (w .run)) (drop (w .at) (take (w .have) bytes)) (w .flow))) (sym e) m2
 
-  pub line-more : at < have → (place : Run → Held) (t : Run) (to : ℕ) → place t ≡ heldAfter a (drop at (take have chunk)) → drop to (take have chunk) ≡ advanceOf 40000 (a .place) (drop at (take have chunk)) .left
+  pub line-more : at < have → (place : Run → ListsHeld) (t : Run) (to : ℕ) → place t ≡ heldAfter a (drop at (take have chunk)) → drop to (take have chunk) ≡ advanceOf 40000 (a .place) (drop at (take have chunk)) .left
       → place t .place .known .phase ≡ t .phase → (ok : Bool) (w : Went) → w ≡ afterWrite t to have ok → Made left′ (standAt (place (w .run)) (drop (w .at) (take (w .have) chunk)) (w .flow))
   unfolding afterWrite
   line-more h place t to e f p ok w said =
-      let on : Held → List ℕ → Bool → Phase → Type 0 = λ z l u f. Made left′ (standAt z l (writeFlow ok (u && isOver f))) in
+      let on : ListsHeld → List ℕ → Bool → Phase → Type 0 = λ z l u f. Made left′ (standAt z l (writeFlow ok (u && isOver f))) in
       let v = advanceOf 40000 (a .place) (drop at (take have chunk)) in
       let rest = drop to (take have chunk) in
       let m1 : on (heldAfter a (drop at (take have chunk))) (v .left) (usedUp (v .left)) (v .place .known .phase) = turn-more left left′ fewer m going ok (used at ∙ lt-leb have at h) in
-      let m2 : on (place t) (v .left) (usedUp (v .left)) (place t .place .known .phase) = subst (λ (z : Held). on z (v .left) (usedUp (v .left)) (z .place .known .phase)) (sym e) m1 in
+      let m2 : on (place t) (v .left) (usedUp (v .left)) (place t .place .known .phase) = subst (λ (z : ListsHeld). on z (v .left) (usedUp (v .left)) (z .place .known .phase)) (sym e) m1 in
       let m3 : on (place t) rest (usedUp rest) (place t .place .known .phase) = subst (λ (l : List ℕ). on (place t) l (usedUp l) (place t .place .known .phase)) (sym f) m2 in
       let m4 : on (place t) rest (leb have to) (place t .place .known .phase) = subst (λ (u : Bool). on (place t) rest u (place t .place .known .phase)) (used to) m3 in
       let m5 : on (place t) rest (leb have to) (t .phase) = subst (on (place t) rest (leb have to)) p m4 in
@@ -180,7 +180,7 @@ nothing-left true false o e = absurd (subst T (sym (ap ended e)) tt)
 all-read : {a z : Stand} {cs : List Call} → Ran a cs z → AllRead a → AllRead z
 all-read none h = h
 all-read (reads got bytes e f m) h = all-read m (nothing-read got bytes)
-all-read {a} (turns ok e f m) h = all-read m (nothing-left ok (usedUp (turnOf a .left)) (isOver (turnOf a .place .known .phase)))
+all-read {a} (turns ok e f m) h = all-read m (nothing-left ok (usedUp (turnAt a .left)) (isOver (turnAt a .place .known .phase)))
 
 empty : (xs : List ℕ) → usedUp xs ≡ true → xs ≡ []
 empty [] e = refl

@@ -62,44 +62,44 @@ abbrev pub lastText : Went → List ℕ → List ℕ
 lastText w buf = lastBy (w .flow) (w .run) buf
 
 -- and what has come of it all, by whether that was written
-abbrev pub endOf : Flow → Bool → Flow
-endOf More ok = More
-endOf Ended ok = writeFlow ok true
-endOf Unread ok = Unread
-endOf Unwritten ok = Unwritten
+abbrev pub endFlow : Flow → Bool → Flow
+endFlow More ok = More
+endFlow Ended ok = writeFlow ok true
+endFlow Unread ok = Unread
+endFlow Unwritten ok = Unwritten
 
 -- ---- call after call
 
 -- what the program's lists hold: the machine's place, the responses of the last query, and the list of what is to be written
-pub record Held : Type 0 where
+pub record ListsHeld : Type 0 where
   pub place : At Session
   pub ears : Ears
   pub out : List ℕ
 
-abbrev pub held : At Session → Ears → List ℕ → Held
+abbrev pub held : At Session → Ears → List ℕ → ListsHeld
 held a e out = record { place = a; ears = e; out = out }
 
-abbrev pub here : Run → List ℕ → List Float → List Float → List Float → List ℕ → List ℕ → List ℕ → List Float → List Float → List Float → List ℕ → Held
+abbrev pub here : Run → List ℕ → List Float → List Float → List Float → List ℕ → List ℕ → List ℕ → List Float → List Float → List Float → List ℕ → ListsHeld
 here t buf positions responses delays left right neighbours cartesian outLeft outRight out =
     held (runPlace t (textLists positions responses delays) (workOf left right neighbours cartesian) buf) (earsOf outLeft outRight) out
 
 -- all zeros
-abbrev pub startHeld : Held
+abbrev pub startHeld : ListsHeld
 startHeld = held (betweenBytes (begun noLists noWork) []) (earsOf (replicate 4096 zero32) (replicate 4096 zero32)) (replicate 73848 0)
 
 -- after a turn over the rest of a chunk
-abbrev pub heldAfter : Held → List ℕ → Held
+abbrev pub heldAfter : ListsHeld → List ℕ → ListsHeld
 heldAfter h rest =
     let v = advanceOf 40000 (h .place) rest in
     held (v .place) (advanceEars 40000 (h .place) rest (h .ears)) (over (v .printed) (h .out))
 
 -- where the program is: what its lists hold, what is left of the chunk, and what came of the last call
 pub record Stand : Type 0 where
-  pub held : Held
+  pub held : ListsHeld
   pub rest : List ℕ
   pub flow : Flow
 
-abbrev pub standAt : Held → List ℕ → Flow → Stand
+abbrev pub standAt : ListsHeld → List ℕ → Flow → Stand
 standAt h rest flow = record { held = h; rest = rest; flow = flow }
 
 abbrev pub usedUp : List ℕ → Bool
@@ -110,13 +110,13 @@ usedUp (x ∷ xs) = false
 abbrev pub reading : Stand → ℤ → List ℕ → Stand
 reading a got bytes = standAt (a .held) (take (clamped got 65536) bytes) (readFlow got)
 
-abbrev pub turnOf : Stand → Advance
-turnOf a = advanceOf 40000 (a .held .place) (a .rest)
+abbrev pub turnAt : Stand → Advance
+turnAt a = advanceOf 40000 (a .held .place) (a .rest)
 
 -- a turn was made, and what it says was written or not
-abbrev pub writing : Stand → Bool → Stand
-writing a ok =
-    let v = turnOf a in
+abbrev pub wroteTurn : Stand → Bool → Stand
+wroteTurn a ok =
+    let v = turnAt a in
     standAt (heldAfter (a .held) (a .rest)) (v .left) (writeFlow ok (usedUp (v .left) && isOver (v .place .known .phase)))
 
 -- a call, with what was handed over and what the system answered
@@ -129,7 +129,7 @@ pub data Call : Type 0 where
 pub data Ran : Stand → List Call → Stand → Type 0 where
   none : {a : Stand} → Ran a [] a
   reads : {a z : Stand} {cs : List Call} (got : ℤ) (bytes : List ℕ) → goesOn (a .flow) ≡ true → usedUp (a .rest) ≡ true → Ran (reading a got bytes) cs z → Ran a (read got bytes ∷ cs) z
-  turns : {a z : Stand} {cs : List Call} (ok : Bool) → goesOn (a .flow) ≡ true → usedUp (a .rest) ≡ false → Ran (writing a ok) cs z → Ran a (write (turnOf a .printed) ok ∷ cs) z
+  turns : {a z : Stand} {cs : List Call} (ok : Bool) → goesOn (a .flow) ≡ true → usedUp (a .rest) ≡ false → Ran (wroteTurn a ok) cs z → Ran a (write (turnAt a .printed) ok ∷ cs) z
 
 -- before the first call
 abbrev pub startStand : Stand
@@ -142,7 +142,7 @@ pub record Made (left : ℕ) (z : Stand) : Type 0 where
   pub counted : length calls + left ≡ 18446744073709551615
 
 -- The program came to a place by such calls, until one of them ended it or it had made all that it may
-pub record Came (z : Held) (w : Went) : Type 0 where
+pub record Came (z : ListsHeld) (w : Went) : Type 0 where
   pub sound : Sound (w .run)
   pub rest : List ℕ
   pub left : ℕ

@@ -2,7 +2,7 @@
 //
 // Only reading and writing stand here; what a text comes to is crate `queries`, whose turns read up to the end of a line and say what to write.
 // No contract can speak of what was read or written. What the system answered is a value: each function that decides by it is an equation over it
-// (`afterRead`, `afterWrite`, `endOf`), and `run` is exactly those steps, one for each call that it made, until one of them ends it
+// (`afterRead`, `afterWrite`, `endFlow`), and `run` is exactly those steps, one for each call that it made, until one of them ends it
 // (`Ran`, `Came`, specs/Calls.antt). proofs/Turns.antt: the answers decide where it comes to, lists and all (`same-end`), and where it ends with the
 // text, all that it was to write is `outputOf` of all that it read (`whole-output`). Memory is the lists of `main` and one chunk, whatever the
 // number of queries.
@@ -13,7 +13,7 @@ ghost use mathlib.Core.Path.{_≡_};
 ghost use lib.ListN.{length};
 ghost use Rattle.queries.specs.Sound.{Sound};
 ghost use Rattle.queries.specs.Machine.{startRun, Front};
-ghost use Rattle.sofaquery.specs.Calls.{here, startHeld, startWent, goesOn, readFlow, afterRead, writeFlow, afterWrite, lastText, endOf, Came, Ends};
+ghost use Rattle.sofaquery.specs.Calls.{here, startHeld, startWent, goesOn, readFlow, afterRead, writeFlow, afterWrite, lastText, endFlow, Came, Ends};
 use queries::Run;
 
 // What came of the last call of the system.
@@ -186,7 +186,7 @@ fn last(went: Went, buf: &[u8; 40000], out: &mut [u8; 73848]) -> usize
 
 // By whether that was written.
 fn end_flow(flow: Flow, ok: bool) -> Flow
-    ensures { λ r. ⌜ r ≡ endOf flow ok ⌝ }
+    ensures { λ r. ⌜ r ≡ endFlow flow ok ⌝ }
 {
     match flow {
         Flow::More => Flow::More,

@@ -1,7 +1,7 @@
 -- `sofaquery::end_flow` meets its contract. Assumes nothing.
 use mathlib.Core.Path.{sym, ap, _∙_}
 use Rattle.sofaquery.specs.declared.Flow.{Flow}
-use Rattle.sofaquery.specs.Calls.{endOf}
+use Rattle.sofaquery.specs.Calls.{endFlow}
 use borrow.Author.Needs.{needs}
 use Rattle.sofaquery.proofs.end_flow.Statement.{statement}
 use Rattle.sofaquery.proofs.end_flow.Tie as tie
@@ -25,7 +25,7 @@ returns : tie.Need-returns
 returns c = search needs
 
 returns-2 : tie.Need-returns-2
-returns-2 c = c .write-flow .ensures ∙ sym (ap (λ (f : Flow). endOf f (c .before .before .before .args .ok)) (c .before .enum-told2 .given .1))
+returns-2 c = c .write-flow .ensures ∙ sym (ap (λ (f : Flow). endFlow f (c .before .before .before .args .ok)) (c .before .enum-told2 .given .1))
 
 returns-3 : tie.Need-returns-3
 returns-3 c = search needs

@@ -14,7 +14,7 @@ use Rattle.queries.specs.Sound.{Sound}
 use Rattle.queries.proofs.Keeps.{start-sound}
 use Rattle.queries.proofs.Turns.{fits}
 use Rattle.sofaquery.specs.declared.Flow.the-variants.{More}
-use Rattle.sofaquery.specs.Calls.{Held, here, goesOn, standAt, none, startStand, Made}
+use Rattle.sofaquery.specs.Calls.{ListsHeld, here, goesOn, standAt, none, startStand, Made}
 use Rattle.sofaquery.proofs.Turns.{same-held, read-run, read-have, write-run, write-have, chunk-more, line-more}
 use borrow.Author.Needs.{needs}
 use Rattle.sofaquery.proofs.run.Statement.{statement}
@@ -35,7 +35,7 @@ loop-holds : tie.Need-loop-holds Inv-loop μ-loop
 loop-holds c =
     let none-yet : 0 ≤ 65536 = omega arith in
     let made : Made 18446744073709551615 startStand = record { calls = []; ran = none; counted = refl } in
-    (rw (c .begin .ensures) start-sound, rw (c .begin .ensures) none-yet, search needs, rw (c .begin .ensures) (subst (λ (a : Held). Made 18446744073709551615 (standAt a [] More)) (sym (c .before .pre)) made))
+    (rw (c .begin .ensures) start-sound, rw (c .begin .ensures) none-yet, search needs, rw (c .begin .ensures) (subst (λ (a : ListsHeld). Made 18446744073709551615 (standAt a [] More)) (sym (c .before .pre)) made))
 
 goes-on-requires : tie.Need-goes-on-requires Inv-loop μ-loop
 goes-on-requires c κs = search needs
@@ -81,7 +81,7 @@ loop-again c =
     let fewer : l .calls ≡ l .calls - 1 + 1 = omega (arith, c .before .before .before .before .before .before .before .before .before .before .before .before .before .before .before .before .before .before .before .before .before .loop-test .taken) in
     let inside : l .went .at < l .went .have = c .before .before .before .before .before .before .before .before .before .before .before .before .before .before .before .before .before .if2 .taken in
     let going : goesOn (l .went .flow) ≡ true = sym (c .before .before .before .before .before .before .before .before .before .before .before .before .before .before .before .before .before .before .before .before .goes-on .ensures) ∙ c .before .before .before .before .before .before .before .before .before .before .before .before .before .before .before .before .before .before .before .if1 .taken in
-    let place : Run → Held = λ r. here r (told .last .1 .1 .0) (told .last .1 .1 .1 .1 .0) (told .last .1 .1 .1 .1 .1 .0) (told .last .1 .1 .1 .1 .1 .1 .0) (told .last .1 .1 .1 .1 .1 .1 .1 .0) (told .last .1 .1 .1 .1 .1 .1 .1 .1 .0) (told .last .1 .1 .1 .1 .1 .1 .1 .1 .1 .0) (told .last .1 .1 .1 .1 .1 .1 .1 .1 .1 .1 .0) (told .last .1 .1 .1 .1 .1 .1 .1 .1 .1 .1 .1 .0) (told .last .1 .1 .1 .1 .1 .1 .1 .1 .1 .1 .1 .1 .0) (told .last .1 .1 .1 .1 .1 .1 .1 .1 .1 .1 .1 .1 .1 .0) in
+    let place : Run → ListsHeld = λ r. here r (told .last .1 .1 .0) (told .last .1 .1 .1 .1 .0) (told .last .1 .1 .1 .1 .1 .0) (told .last .1 .1 .1 .1 .1 .1 .0) (told .last .1 .1 .1 .1 .1 .1 .1 .0) (told .last .1 .1 .1 .1 .1 .1 .1 .1 .0) (told .last .1 .1 .1 .1 .1 .1 .1 .1 .1 .0) (told .last .1 .1 .1 .1 .1 .1 .1 .1 .1 .1 .0) (told .last .1 .1 .1 .1 .1 .1 .1 .1 .1 .1 .1 .0) (told .last .1 .1 .1 .1 .1 .1 .1 .1 .1 .1 .1 .1 .0) (told .last .1 .1 .1 .1 .1 .1 .1 .1 .1 .1 .1 .1 .1 .0) in
     (subst Sound (sym (write-run _ _ _ _ _ e)) (told .ensures .sound), subst (λ (n : ℕ). n ≤ 65536) (sym (write-have _ _ _ _ _ e)) (l .inv .1), l .inv .2, line-more _ _ fewer _ (l .chunk) _ _ room _ (l .inv .3) going inside place _ _ (same-held (told .ensures .place) (told .ensures .ears) (told .ensures .printed .same)) (told .ensures .left) refl ok _ e)
 
 slice-aggregate-read : tie.Need-slice-aggregate-read Inv-loop μ-loop
@@ -107,7 +107,7 @@ loop-again-2 c =
     let fewer : l .calls ≡ l .calls - 1 + 1 = omega (arith, c .before .before .before .before .before .before .before .before .before .loop-test .taken) in
     let used : l .went .have ≤ l .went .at = c .before .before .before .before .before .if2 .left in
     let going : goesOn (l .went .flow) ≡ true = sym (c .before .before .before .before .before .before .before .before .goes-on .ensures) ∙ c .before .before .before .before .before .before .before .if1 .taken in
-    let place : Run → Held = λ r. here r (l .buf) (l .positions) (l .responses) (l .delays) (l .left) (l .right) (l .neighbours) (l .cartesian) (l .out-left) (l .out-right) (l .out) in
+    let place : Run → ListsHeld = λ r. here r (l .buf) (l .positions) (l .responses) (l .delays) (l .left) (l .right) (l .neighbours) (l .cartesian) (l .out-left) (l .out-right) (l .out) in
     (subst Sound (sym (read-run _ _ _ e)) (l .inv .0), read-have _ _ _ e, search needs, chunk-more _ _ fewer _ (l .chunk) _ _ room _ (l .inv .3) going used place _ refl got bytes _ e)
 
 returns : tie.Need-returns Inv-loop μ-loop
