@@ -82,6 +82,16 @@ fn memory() -> String {
     out
 }
 
+/// How the times were taken, in lines of a document.
+const HOW: &str = "\
+One process, one run, release builds; the sides take turns in short batches, and the time is that of the least batch, so
+that a busy machine disturbs it least. Ratios above 1 (in bold): the port is faster. `source` is the Rust unchanged,
+`redirected` the Rust with the port's sine, cosine and arctangent. Instructions are callgrind's, of one call. `sphere`:
+directions at random; `grid`: every 5 degrees, in shells; `measured`: MIT KEMAR, its own responses. A load takes steps of
+0.5 degrees and 0.01. A round asks 4096 different queries, as a head that turns does; `find again` asks the same 64 in
+every round, to show whether a processor gains by learning them.
+";
+
 pub fn write(timed: &str, counted: &str, facts: &str) {
     let (order, t) = times(timed);
     let c = counts(counted);
@@ -90,12 +100,10 @@ pub fn write(timed: &str, counted: &str, facts: &str) {
     let (head, rest) = facts.split_once("\n---\n").unwrap_or((&facts, ""));
     let notes = fs::read_to_string("bench/notes.md").unwrap_or_default();
     let text = format!(
-        "# Speed\n\nWritten by `bench/run`; only the last chapter is by hand (bench/notes.md).\n\n{head}\n\nOne process, one run, release builds; the sides take turns in short batches, and the time is \
-         that of the least batch, so that a busy machine disturbs it least. Ratios above 1 (in bold): the port is faster. `source` is the Rust unchanged, \
-         `redirected` the Rust with the port's sine, cosine and arctangent. Instructions are callgrind's, of one call. `sphere`: directions at random; `grid`: every \
-         5 degrees, in shells. A load takes steps of 0.5 degrees and 0.01. A round asks 4096 \
-         different queries, as a head that turns does; `find again` asks the same 64 in every round, to show whether a processor gains by learning them.\n\n## A set\n\n{}\n## Numbers\n\n{}\n## The blend's inner loop\n\nBoth ears, four points.\n\n{}\n\
-         ## How cost grows\n\n![load and find against M, filter against N](speed.svg)\n\n{}\n## Stack\n\n{rest}\n## Memory\n\nNothing is allocated. In bytes, a host lends:\n\n{}\n{notes}",
+        "# Speed\n\nWritten by `bench/run`; only the last chapter is by hand (bench/notes.md).\n\n{head}\n{}\n## A set\n\n{}\n## Numbers\n\n{}\n\
+         ## The blend's inner loop\n\nBoth ears, four points.\n\n{}\n## How cost grows\n\n![load and find against M, filter against N](speed.svg)\n\n{}\n\
+         ## Stack\n\n{rest}\n## Memory\n\nNothing is allocated. In bytes, a host lends:\n\n{}\n{notes}",
+        HOW,
         table(&of(&["load", "find", "filter", "plain"]), "source", &t, &c),
         table(&of(&["sine", "cosine", "arctangent", "root"]), "C library", &t, &c),
         table(&of(&["blend"]), "C loop", &t, &c),

@@ -13,7 +13,8 @@ use Rattle.limits.specs.declared.Verdict.{Verdict}
 use Rattle.limits.specs.declared.Verdict.the-variants as verdict
 use Rattle.limits.specs.Allowed.{treeFits, responsesFit, neighboursFit, plainFits, blendFits}
 use Rattle.limits.specs.Refusals.{verdictOf, badRate, queryLines, shortLists, findLines, filterLines}
-use Rattle.limits.proofs.Lines.{passed, goes-on, and-left}
+use Rattle.limits.proofs.Lines.{passed, goes-on}
+use Rattle.floats.proofs.Cross.{and-left}
 use borrow.Author.Tests.{not-false}
 use Rattle.lookup.specs.declared.Lookup.{Lookup}
 use Rattle.lookup.specs.declared.Located.{Located}
