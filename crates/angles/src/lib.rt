@@ -120,7 +120,8 @@ fn mag_of(x: f32) -> f32
 
 // lo / big in units of 2^-31.
 fn ratio_of(lo: f32, big: f32) -> u64
-    requires { ⌜ T (lt (fin true 1 (pos 0)) (mul binary32 (div binary32 lo big) (fin false 1 (pos 31)))) × T (lt (mul binary32 (div binary32 lo big) (fin false 1 (pos 31))) (fin false 1 (pos 64))) ⌝ }
+    requires { ⌜ T (lt (fin true 1 (pos 0)) (mul binary32 (div binary32 lo big) (fin false 1 (pos 31))))
+        × T (lt (mul binary32 (div binary32 lo big) (fin false 1 (pos 31))) (fin false 1 (pos 64))) ⌝ }
     ensures { λ r. ⌜ r ≡ ratioOf lo big ⌝ }
 {
     std::num::truncating_f32_to_u64(lo / big * 2147483648.0)

@@ -87,7 +87,9 @@ fn ask(
     out_left: &mut [f32],
     out_right: &mut [f32],
 ) -> Outcome
-    requires { ⌜ (s .delays ≤ length (now delays)) × (length (now «out_left») ≡ s .n) × (length (now «out_right») ≡ s .n) ⌝ }
+    requires { ⌜ (s .delays ≤ length (now delays))
+        × (length (now «out_left») ≡ s .n)
+        × (length (now «out_right») ≡ s .n) ⌝ }
     ensures { λ o. ⌜ filterOf o (now («out_left» .exit)) (now («out_right» .exit))
         ≡ filteredOf s look (workOf (now (left .entry)) (now (right .entry)) (now (neighbours .entry)) (now (cartesian .entry))) (now (responses .entry)) (now (delays .entry)) q ⌝ }
 {
@@ -123,7 +125,10 @@ pub fn answer(
     out_right: &mut [f32],
     out: &mut [u8],
 ) -> usize
-    requires { ⌜ (s .delays ≤ length (now delays)) × (length (now «out_left») ≡ s .n) × (length (now «out_right») ≡ s .n) × (18 * (s .n) + 120 ≤ length (now out)) ⌝ }
+    requires { ⌜ (s .delays ≤ length (now delays))
+        × (length (now «out_left») ≡ s .n)
+        × (length (now «out_right») ≡ s .n)
+        × (18 * (s .n) + 120 ≤ length (now out)) ⌝ }
     ensures { λ r. ⌜ answeredAs r (now (out .exit)) (now («out_left» .exit)) (now («out_right» .exit))
         ≡ answeredOf s look (workOf (now (left .entry)) (now (right .entry)) (now (neighbours .entry)) (now (cartesian .entry))) (now (responses .entry)) (now (delays .entry)) q (now (out .entry)) ⌝ }
 {

@@ -122,7 +122,12 @@ fn clear_rec(
     axis: u8,
     kept: Kept,
 ) -> Kept
-    requires { ⌜ (node < m) × (3 * m ≤ length (now (now xs))) × (m ≤ length (now (now left))) × (m ≤ length (now (now right))) × (m ≤ 16384) × (own < m) ⌝ }
+    requires { ⌜ (node < m)
+        × (3 * m ≤ length (now (now xs)))
+        × (m ≤ length (now (now left)))
+        × (m ≤ length (now (now right)))
+        × (m ≤ 16384)
+        × (own < m) ⌝ }
     ensures { λ r. ⌜ ((f : ℕ) → m - node ≤ f
         → heldIn r (now (places .exit))
         ≡ cleared own (pointAt (now (now (xs .entry))) own) (subtree (now (now (left .entry))) (now (now (right .entry))) (now (now (xs .entry))) m f node) axis
@@ -172,7 +177,11 @@ pub fn clear(
     reach: f32,
     step: f32,
 ) -> Clearing
-    requires { ⌜ (own < m) × (3 * m ≤ length (now xs)) × (m ≤ length (now left)) × (m ≤ length (now right)) × (m ≤ 16384) ⌝ }
+    requires { ⌜ (own < m)
+        × (3 * m ≤ length (now xs))
+        × (m ≤ length (now left))
+        × (m ≤ length (now right))
+        × (m ≤ 16384) ⌝ }
     ensures { λ r. ⌜ r ≡ clearingOf own (pointAt (now (xs .entry)) own) (subtree (now (left .entry)) (now (right .entry)) (now (xs .entry)) m m 0) reach step ⌝ }
 {
     let p = points::point_at(xs, own);
@@ -281,7 +290,9 @@ fn listed_count(c: Clearing) -> usize
 
 // Its own, and all that are listed.
 pub fn nearest_in(m: usize, xs: &[f32], own: usize, c: Clearing, q: Point3) -> Nearest
-    requires { ⌜ (own < m) × (3 * m ≤ length (now xs)) × (m ≤ 16384) ⌝ }
+    requires { ⌜ (own < m)
+        × (3 * m ≤ length (now xs))
+        × (m ≤ 16384) ⌝ }
     ensures { λ r. ⌜ r ≡ nearestWithin (now (xs .entry)) m q own c ⌝ }
 {
     let p = points::point_at(xs, own);

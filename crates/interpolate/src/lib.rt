@@ -178,7 +178,10 @@ fn closer_neighbor(
     k: usize,
     j: usize,
 ) -> Met
-    requires { ⌜ (j ≤ 4) × (k < m) × (3 * m ≤ length (now cartesian)) × (6 * m ≤ length (now neighbours)) ⌝ }
+    requires { ⌜ (j ≤ 4)
+        × (k < m)
+        × (3 * m ≤ length (now cartesian))
+        × (6 * m ≤ length (now neighbours)) ⌝ }
     ensures { λ r. ⌜ r ≡ metIf (Blend.known m (Blend.entry (now (neighbours .entry)) k j) && Blend.known m (Blend.entry (now (neighbours .entry)) k (j + 1)))
         (closestOf (distanceOf (now (cartesian .entry)) position) (Blend.entry (now (neighbours .entry)) k j) (Blend.entry (now (neighbours .entry)) k (j + 1))) ⌝ }
 {
@@ -200,7 +203,10 @@ fn gather(
     nearest: usize,
     d: f32,
 ) -> Gathered
-    requires { ⌜ (nearest < m) × (3 * m ≤ length (now cartesian)) × (6 * m ≤ length (now neighbours)) × (d ≡ distanceOf (now cartesian) position nearest) ⌝ }
+    requires { ⌜ (nearest < m)
+        × (3 * m ≤ length (now cartesian))
+        × (6 * m ≤ length (now neighbours))
+        × (d ≡ distanceOf (now cartesian) position nearest) ⌝ }
     ensures { λ r. ⌜ Gathers m (allKnown m (neighborsOf (now (neighbours .entry)) nearest))
         (pointsOf (distanceOf (now (cartesian .entry)) position) (neighborsOf (now (neighbours .entry)) nearest) nearest) r ⌝ }
 {
@@ -318,7 +324,11 @@ fn held(delays: &[f32], s: Stride, k: usize) -> f32
 
 // A measurement's delay for receiver e.
 pub fn plain_delay(delays: &[f32], k: usize, m: usize, r: usize, e: usize) -> Samples
-    requires { ⌜ (k < m) × (m ≤ 16384) × (2 ≤ r) × (r ≤ 8) × (e ≤ 1) ⌝ }
+    requires { ⌜ (k < m)
+        × (m ≤ 16384)
+        × (2 ≤ r)
+        × (r ≤ 8)
+        × (e ≤ 1) ⌝ }
     ensures { λ s. ⌜ s ≡ plainDelay (now (delays .entry)) m r e k ⌝ }
 {
     let s = stride_of(delays.len(), m, r, e);
@@ -350,7 +360,11 @@ fn weighed(delays: &[f32], p: Points, s: Stride) -> f32
 
 // The blended delay for receiver e. Where there are no delays nothing is added, so that it is +0 whatever the weights are.
 fn blend_delay(delays: &[f32], p: Points, m: usize, r: usize, e: usize) -> Samples
-    requires { ⌜ Placed m p × (m ≤ 16384) × (2 ≤ r) × (r ≤ 8) × (e ≤ 1) ⌝ }
+    requires { ⌜ Placed m p
+        × (m ≤ 16384)
+        × (2 ≤ r)
+        × (r ≤ 8)
+        × (e ≤ 1) ⌝ }
     ensures { λ s. ⌜ s ≡ blendDelay (now (delays .entry)) m r e (listOf p) ⌝ }
 {
     let s = stride_of(delays.len(), m, r, e);
@@ -372,7 +386,9 @@ fn extract_filter(
     left: &mut [f32],
     right: &mut [f32],
 ) -> Outcome
-    requires { ⌜ Sized m r n × (k < m) × (m * r * n ≤ length (now responses)) ⌝ }
+    requires { ⌜ Sized m r n
+        × (k < m)
+        × (m * r * n ≤ length (now responses)) ⌝ }
     ensures { λ o. ⌜ filterOf o (now (left .exit)) (now (right .exit))
         ≡ extractOf m r n (now (responses .entry)) (now (delays .entry)) rate (length (now (left .entry))) (length (now (right .entry))) k ⌝ }
 {
@@ -395,7 +411,9 @@ fn blend(
     left: &mut [f32],
     right: &mut [f32],
 ) -> Outcome
-    requires { ⌜ Sized m r n × Placed m p × (m * r * n ≤ length (now responses)) ⌝ }
+    requires { ⌜ Sized m r n
+        × Placed m p
+        × (m * r * n ≤ length (now responses)) ⌝ }
     ensures { λ o. ⌜ filterOf o (now (left .exit)) (now (right .exit))
         ≡ blendOf m r n (now (responses .entry)) (now (delays .entry)) rate (length (now (left .entry))) (length (now (right .entry))) (listOf p) ⌝ }
 {
@@ -434,7 +452,11 @@ pub fn interpolate(
     left: &mut [f32],
     right: &mut [f32],
 ) -> Outcome
-    requires { ⌜ Sized m r n × (nearest < m) × (3 * m ≤ length (now cartesian)) × (6 * m ≤ length (now neighbours)) × (m * r * n ≤ length (now responses)) ⌝ }
+    requires { ⌜ Sized m r n
+        × (nearest < m)
+        × (3 * m ≤ length (now cartesian))
+        × (6 * m ≤ length (now neighbours))
+        × (m * r * n ≤ length (now responses)) ⌝ }
     ensures { λ o. ⌜ filterOf o (now (left .exit)) (now (right .exit))
         ≡ interpolateOf m r n (now (responses .entry)) (now (delays .entry)) rate (length (now (left .entry))) (length (now (right .entry)))
         (now (cartesian .entry)) (now (neighbours .entry)) position nearest ⌝ }
@@ -476,7 +498,9 @@ pub fn get_filter_nointerp(
     left: &mut [f32],
     right: &mut [f32],
 ) -> Outcome
-    requires { ⌜ Sized m r n × (nearest < m) × (m * r * n ≤ length (now responses)) ⌝ }
+    requires { ⌜ Sized m r n
+        × (nearest < m)
+        × (m * r * n ≤ length (now responses)) ⌝ }
     ensures { λ o. ⌜ filterOf o (now (left .exit)) (now (right .exit))
         ≡ extractOf m r n (now (responses .entry)) (now (delays .entry)) rate (length (now (left .entry))) (length (now (right .entry))) nearest ⌝ }
 {

@@ -263,7 +263,9 @@ fn query_coord(q: &[f32; 3], axis: u8) -> f32
 
 // One coordinate of a place, by the axis.
 fn place_coord(xs: &&[f32], place: usize, axis: u8) -> f32
-    requires { ⌜ (axis < 3) × (place < 16384) × (3 * place + 2 < length (now (now xs))) ⌝ }
+    requires { ⌜ (axis < 3)
+        × (place < 16384)
+        × (3 * place + 2 < length (now (now xs))) ⌝ }
     ensures { λ r. ⌜ r ≡ coordOf (pointAt (now (now (xs .entry))) place) axis ⌝ }
 {
     let at = 3 * place + axis as usize;
@@ -361,7 +363,12 @@ fn nearest_rec(
     axis: u8,
     best: Best,
 ) -> Searched
-    requires { ⌜ (node < m) × (3 * m ≤ length (now (now xs))) × (m ≤ length (now (now left))) × (m ≤ length (now (now right))) × (m ≤ 16384) × (axis < 3) ⌝ }
+    requires { ⌜ (node < m)
+        × (3 * m ≤ length (now (now xs)))
+        × (m ≤ length (now (now left)))
+        × (m ≤ length (now (now right)))
+        × (m ≤ 16384)
+        × (axis < 3) ⌝ }
     ensures { λ r. ⌜ ((f : ℕ) → m - node ≤ f
         → r ≡ search m (pointAt (now (q .entry)) 0) (subtree (now (now (left .entry))) (now (now (right .entry))) (now (now (xs .entry))) m f node) rect axis best) ⌝ }
 {
@@ -425,7 +432,11 @@ pub fn nearest_place(
     right: &[u16],
     q: Point3,
 ) -> Searched
-    requires { ⌜ (root < count) × (3 * count ≤ length (now positions)) × (count ≤ length (now left)) × (count ≤ length (now right)) × (count ≤ 16384) ⌝ }
+    requires { ⌜ (root < count)
+        × (3 * count ≤ length (now positions))
+        × (count ≤ length (now left))
+        × (count ≤ length (now right))
+        × (count ≤ 16384) ⌝ }
     ensures { λ r. ⌜ r ≡ foundFrom (now (positions .entry)) (now (left .entry)) (now (right .entry)) count root bounds q ⌝ }
 {
     let dist = points::dist_sq(points::point_at(positions, root), q);
@@ -523,7 +534,10 @@ pub fn insert_rec(
     node: usize,
     axis: u8,
 ) -> Slot
-    requires { ⌜ (node < count) × (3 * count ≤ length (now positions)) × (count ≤ length (now left)) × (count ≤ length (now right)) ⌝ }
+    requires { ⌜ (node < count)
+        × (3 * count ≤ length (now positions))
+        × (count ≤ length (now left))
+        × (count ≤ length (now right)) ⌝ }
     ensures { λ r. ⌜ ((f : ℕ) → count - node ≤ f
         → r ≡ slotIn p (subtree (now (left .entry)) (now (right .entry)) (now (positions .entry)) count f node) axis) ⌝ }
 {
@@ -571,7 +585,10 @@ fn write_node(
     p: Point3,
     number: u16,
 )
-    requires { ⌜ (3 * count + 2 < length (now positions)) × (count < length (now left)) × (count < length (now right)) × (count < length (now numbers)) ⌝ }
+    requires { ⌜ (3 * count + 2 < length (now positions))
+        × (count < length (now left))
+        × (count < length (now right))
+        × (count < length (now numbers)) ⌝ }
     ensures { λ _. ⌜ listsOf (now (positions .exit)) (now (left .exit)) (now (right .exit)) (now (numbers .exit))
         ≡ written (listsOf (now (positions .entry)) (now (left .entry)) (now (right .entry)) (now (numbers .entry))) count p number ⌝ }
 {

@@ -45,7 +45,12 @@ fn index(
     neighbours: &mut [u16],
     cartesian: &[f32],
 ) -> Loaded
-    requires { ⌜ (0 < m) × (m ≤ 16384) × (3 * m ≤ length (now cartesian)) × (m ≤ length (now left)) × (m ≤ length (now right)) × (6 * m ≤ length (now neighbours)) ⌝ }
+    requires { ⌜ (0 < m)
+        × (m ≤ 16384)
+        × (3 * m ≤ length (now cartesian))
+        × (m ≤ length (now left))
+        × (m ≤ length (now right))
+        × (6 * m ≤ length (now neighbours)) ⌝ }
     ensures { λ r. ⌜ loadAs r (workOf (now (left .exit)) (now (right .exit)) (now (neighbours .exit)) (now (cartesian .entry)))
         ≡ indexed m «angle_step» «radius_step» (workOf (now (left .entry)) (now (right .entry)) (now (neighbours .entry)) (now (cartesian .entry))) ⌝ }
 {

@@ -47,7 +47,11 @@ const MAX: f32 = 340282346638528859811704183484516925440.0;
 
 // Links the place n, whose point stands in the list, to the tree of the places before it.
 fn link_place(positions: &[f32], left: &mut [u16], right: &mut [u16], n: usize)
-    requires { ⌜ (0 < n) × (n < 16384) × (3 * n + 2 < length (now positions)) × (n < length (now left)) × (n < length (now right)) ⌝ }
+    requires { ⌜ (0 < n)
+        × (n < 16384)
+        × (3 * n + 2 < length (now positions))
+        × (n < length (now left))
+        × (n < length (now right)) ⌝ }
     ensures { λ _. ⌜ linksOf (now (left .exit)) (now (right .exit)) ≡ ownedAt (now (positions .entry)) n (linksOf (now (left .entry)) (now (right .entry))) ⌝ }
 {
     let p = points::point_at(positions, n);
@@ -60,7 +64,11 @@ fn link_place(positions: &[f32], left: &mut [u16], right: &mut [u16], n: usize)
 
 // Links the first m places in order.
 fn link_all(positions: &[f32], left: &mut [u16], right: &mut [u16], m: usize)
-    requires { ⌜ (0 < m) × (m ≤ 16384) × (3 * m ≤ length (now positions)) × (m ≤ length (now left)) × (m ≤ length (now right)) ⌝ }
+    requires { ⌜ (0 < m)
+        × (m ≤ 16384)
+        × (3 * m ≤ length (now positions))
+        × (m ≤ length (now left))
+        × (m ≤ length (now right)) ⌝ }
     ensures { λ _. ⌜ linksOf (now (left .exit)) (now (right .exit)) ≡ overBoth (linked (now (positions .entry)) m) (linksOf (now (left .entry)) (now (right .entry))) ⌝ }
 {
     left[0] = 65535;
@@ -106,7 +114,9 @@ impl Lookup {
 
     // The box and the bounds of the first m places.
     fn measured(positions: &[f32], m: usize) -> Self
-        requires { ⌜ (0 < m) × (m ≤ 16384) × (3 * m ≤ length (now positions)) ⌝ }
+        requires { ⌜ (0 < m)
+            × (m ≤ 16384)
+            × (3 * m ≤ length (now positions)) ⌝ }
         ensures { λ r. ⌜ r ≡ lookupOf (now (positions .entry)) m ⌝ }
     {
         let first = points::point_at(positions, 0);
@@ -126,7 +136,11 @@ impl Lookup {
 
     // Links the first m places of a Cartesian list in place order, and answers their box and bounds.
     pub fn new(positions: &[f32], m: usize, left: &mut [u16], right: &mut [u16]) -> Self
-        requires { ⌜ (0 < m) × (m ≤ 16384) × (3 * m ≤ length (now positions)) × (m ≤ length (now left)) × (m ≤ length (now right)) ⌝ }
+        requires { ⌜ (0 < m)
+            × (m ≤ 16384)
+            × (3 * m ≤ length (now positions))
+            × (m ≤ length (now left))
+            × (m ≤ length (now right)) ⌝ }
         ensures { λ r. ⌜ builtAs r (linksOf (now (left .exit)) (now (right .exit))) ≡ buildOf (now (positions .entry)) m (linksOf (now (left .entry)) (now (right .entry))) ⌝ }
     {
         link_all(positions, left, right, m);
@@ -156,7 +170,11 @@ impl Lookup {
         right: &[u16],
         p: Point3,
     ) -> Located
-        requires { ⌜ (0 < m) × (3 * m ≤ length (now cartesian)) × (m ≤ length (now left)) × (m ≤ length (now right)) × (m ≤ 16384) ⌝ }
+        requires { ⌜ (0 < m)
+            × (3 * m ≤ length (now cartesian))
+            × (m ≤ length (now left))
+            × (m ≤ length (now right))
+            × (m ≤ 16384) ⌝ }
         ensures { λ r. ⌜ r ≡ locatedBy (placeFound (now (cartesian .entry)) (now (left .entry)) (now (right .entry)) m (self .bounds) p) ⌝ }
     {
         let searched = kdtree::nearest_place(m, 0, self.bounds, cartesian, left, right, p);
@@ -175,7 +193,11 @@ impl Lookup {
         right: &[u16],
         q: Point3,
     ) -> Located
-        requires { ⌜ (0 < m) × (3 * m ≤ length (now cartesian)) × (m ≤ length (now left)) × (m ≤ length (now right)) × (m ≤ 16384) ⌝ }
+        requires { ⌜ (0 < m)
+            × (3 * m ≤ length (now cartesian))
+            × (m ≤ length (now left))
+            × (m ≤ length (now right))
+            × (m ≤ 16384) ⌝ }
         ensures { λ r. ⌜ r ≡ locateOf self m (now (cartesian .entry)) (now (left .entry)) (now (right .entry)) q ⌝ }
     {
         let p = self.normalize_radius(q);

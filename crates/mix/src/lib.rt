@@ -27,7 +27,10 @@ pub struct Points {
 
 // Where the taps of measurement k for receiver e start.
 pub fn start(k: usize, r: usize, n: usize, e: usize) -> usize
-    requires { ⌜ (k < 16384) × (r ≤ 8) × (n ≤ 8192) × (e ≤ 1) ⌝ }
+    requires { ⌜ (k < 16384)
+        × (r ≤ 8)
+        × (n ≤ 8192)
+        × (e ≤ 1) ⌝ }
     ensures { λ s. ⌜ s ≡ startOf r n e k ⌝ }
 {
     (k * r + e) * n
@@ -54,7 +57,9 @@ fn mix1(out: &mut [f32], src: &[f32], a: usize, w: f32, n: usize)
 }
 
 fn mix2(out: &mut [f32], src: &[f32], a: usize, b: usize, w: f32, x: f32, n: usize)
-    requires { ⌜ (n ≤ length (now out)) × (a + n ≤ length (now src)) × (b + n ≤ length (now src)) ⌝ }
+    requires { ⌜ (n ≤ length (now out))
+        × (a + n ≤ length (now src))
+        × (b + n ≤ length (now src)) ⌝ }
     ensures { λ _. ⌜ now (out .exit) ≡ over (upto (Mix.mix2 (now (src .entry)) a b w x) n) (now (out .entry)) ⌝ }
 {
     let mut i = 0;
@@ -75,7 +80,10 @@ fn mix3(
     y: f32,
     n: usize,
 )
-    requires { ⌜ (n ≤ length (now out)) × (a + n ≤ length (now src)) × (b + n ≤ length (now src)) × (c + n ≤ length (now src)) ⌝ }
+    requires { ⌜ (n ≤ length (now out))
+        × (a + n ≤ length (now src))
+        × (b + n ≤ length (now src))
+        × (c + n ≤ length (now src)) ⌝ }
     ensures { λ _. ⌜ now (out .exit) ≡ over (upto (Mix.mix3 (now (src .entry)) a b c w x y) n) (now (out .entry)) ⌝ }
 {
     let mut i = 0;
@@ -98,7 +106,11 @@ fn mix4(
     z: f32,
     n: usize,
 )
-    requires { ⌜ (n ≤ length (now out)) × (a + n ≤ length (now src)) × (b + n ≤ length (now src)) × (c + n ≤ length (now src)) × (d + n ≤ length (now src)) ⌝ }
+    requires { ⌜ (n ≤ length (now out))
+        × (a + n ≤ length (now src))
+        × (b + n ≤ length (now src))
+        × (c + n ≤ length (now src))
+        × (d + n ≤ length (now src)) ⌝ }
     ensures { λ _. ⌜ now (out .exit) ≡ over (upto (Mix.mix4 (now (src .entry)) a b c d w x y z) n) (now (out .entry)) ⌝ }
 {
     let mut i = 0;
@@ -110,7 +122,12 @@ fn mix4(
 
 // The first k samples of an ear's blend.
 fn head(out: &mut [f32], src: &[f32], p: Points, m: usize, r: usize, n: usize, e: usize, k: usize)
-    requires { ⌜ Sized m r n × Placed m p × (e ≤ 1) × (m * r * n ≤ length (now src)) × (k ≤ n) × (k ≤ length (now out)) ⌝ }
+    requires { ⌜ Sized m r n
+        × Placed m p
+        × (e ≤ 1)
+        × (m * r * n ≤ length (now src))
+        × (k ≤ n)
+        × (k ≤ length (now out)) ⌝ }
     ensures { λ _. ⌜ now (out .exit) ≡ over (upto (sampleOf (now (src .entry)) r n e (listOf p)) k) (now (out .entry)) ⌝ }
 {
     let a = start(p.a.number, r, n, e);
@@ -138,7 +155,10 @@ fn lesser(a: usize, b: usize) -> usize
 
 // Receiver e of a blend: the shorter of n and the output, then +0.
 pub fn blend_ear(out: &mut [f32], src: &[f32], p: Points, m: usize, r: usize, n: usize, e: usize)
-    requires { ⌜ Sized m r n × Placed m p × (e ≤ 1) × (m * r * n ≤ length (now src)) ⌝ }
+    requires { ⌜ Sized m r n
+        × Placed m p
+        × (e ≤ 1)
+        × (m * r * n ≤ length (now src)) ⌝ }
     ensures { λ _. ⌜ now (out .exit) ≡ outOf (sampleOf (now (src .entry)) r n e (listOf p)) n (length (now (out .entry))) ⌝ }
 {
     let k = lesser(n, out.len());
@@ -148,7 +168,10 @@ pub fn blend_ear(out: &mut [f32], src: &[f32], p: Points, m: usize, r: usize, n:
 
 // Receiver e of one measurement, its taps as they are.
 pub fn copy_ear(out: &mut [f32], src: &[f32], number: usize, m: usize, r: usize, n: usize, e: usize)
-    requires { ⌜ Sized m r n × (number < m) × (e ≤ 1) × (m * r * n ≤ length (now src)) ⌝ }
+    requires { ⌜ Sized m r n
+        × (number < m)
+        × (e ≤ 1)
+        × (m * r * n ≤ length (now src)) ⌝ }
     ensures { λ _. ⌜ now (out .exit) ≡ outOf (λ i. tapOf (now (src .entry)) r n e i number) n (length (now (out .entry))) ⌝ }
 {
     let k = lesser(n, out.len());

@@ -137,7 +137,10 @@ fn ask(
     out_right: &mut [f32],
     out: &mut [u8],
 ) -> usize
-    requires { ⌜ (s .delays ≤ length (now delays)) × (s .n ≤ length (now «out_left»)) × (s .n ≤ length (now «out_right»)) × (18 * (s .n) + 120 ≤ length (now out)) ⌝ }
+    requires { ⌜ (s .delays ≤ length (now delays))
+        × (s .n ≤ length (now «out_left»))
+        × (s .n ≤ length (now «out_right»))
+        × (18 * (s .n) + 120 ≤ length (now out)) ⌝ }
     ensures { λ r. ⌜ AskSays f s (now (responses .entry)) (now (delays .entry)) (workOf (now (left .entry)) (now (right .entry)) (now (neighbours .entry)) (now (cartesian .entry))) q
         (earsOf (now («out_left» .entry)) (now («out_right» .entry))) (earsOf (now («out_left» .exit)) (now («out_right» .exit))) (now (out .entry)) (now (out .exit)) r ⌝ }
 {
@@ -177,7 +180,8 @@ fn by_step(
     out_right: &mut [f32],
     out: &mut [u8],
 ) -> Turned
-    requires { ⌜ Few step × Rooms (length (now positions)) (length (now delays)) (length (now «out_left»)) (length (now «out_right»)) (length (now out)) ⌝ }
+    requires { ⌜ Few step
+        × Rooms (length (now positions)) (length (now delays)) (length (now «out_left»)) (length (now «out_right»)) (length (now out)) ⌝ }
     ensures { λ r. ⌜ StepSays f step (textLists (now (positions .entry)) (now (responses .entry)) (now (delays .entry))) (workOf (now (left .entry)) (now (right .entry)) (now (neighbours .entry)) (now (cartesian .entry))) (workOf (now (left .exit)) (now (right .exit)) (now (neighbours .exit)) (now (cartesian .exit)))
         (earsOf (now («out_left» .entry)) (now («out_right» .entry))) (earsOf (now («out_left» .exit)) (now («out_right» .exit))) (now (out .entry)) (now (out .exit)) r ⌝ }
 {
@@ -235,7 +239,8 @@ fn take_line(
     out_right: &mut [f32],
     out: &mut [u8],
 ) -> Turned
-    requires { ⌜ SoundPhase f × Rooms (length (now positions)) (length (now delays)) (length (now «out_left»)) (length (now «out_right»)) (length (now out)) ⌝ }
+    requires { ⌜ SoundPhase f
+        × Rooms (length (now positions)) (length (now delays)) (length (now «out_left»)) (length (now «out_right»)) (length (now out)) ⌝ }
     ensures { λ r. ⌜ LineSays f (now (line .entry)) (textLists (now (positions .entry)) (now (responses .entry)) (now (delays .entry))) (textLists (now (positions .exit)) (now (responses .exit)) (now (delays .exit))) (workOf (now (left .entry)) (now (right .entry)) (now (neighbours .entry)) (now (cartesian .entry))) (workOf (now (left .exit)) (now (right .exit)) (now (neighbours .exit)) (now (cartesian .exit)))
         (earsOf (now («out_left» .entry)) (now («out_right» .entry))) (earsOf (now («out_left» .exit)) (now («out_right» .exit))) (now (out .entry)) (now (out .exit)) r ⌝ }
 {
@@ -273,7 +278,10 @@ fn turn(
     out_right: &mut [f32],
     out: &mut [u8],
 ) -> Told
-    requires { ⌜ (at ≤ length (now chunk)) × Sound t × (length (now buf) ≡ 40000) × Rooms (length (now positions)) (length (now delays)) (length (now «out_left»)) (length (now «out_right»)) (length (now out)) ⌝ }
+    requires { ⌜ (at ≤ length (now chunk))
+        × Sound t
+        × (length (now buf) ≡ 40000)
+        × Rooms (length (now positions)) (length (now delays)) (length (now «out_left»)) (length (now «out_right»)) (length (now out)) ⌝ }
     ensures { λ r. ⌜ AdvanceSays (now (chunk .entry)) at (now (buf .entry)) (now (buf .exit)) t (textLists (now (positions .entry)) (now (responses .entry)) (now (delays .entry))) (textLists (now (positions .exit)) (now (responses .exit)) (now (delays .exit))) (workOf (now (left .entry)) (now (right .entry)) (now (neighbours .entry)) (now (cartesian .entry))) (workOf (now (left .exit)) (now (right .exit)) (now (neighbours .exit)) (now (cartesian .exit)))
         (earsOf (now («out_left» .entry)) (now («out_right» .entry))) (earsOf (now («out_left» .exit)) (now («out_right» .exit))) (now (out .entry)) (now (out .exit)) r ⌝ }
 {

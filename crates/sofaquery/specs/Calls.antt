@@ -1,9 +1,9 @@
 -- What the program does with what the system answered, call after call. Definitions only.
 use Prim.Native.Nat.{ℕ, zero, suc, _+_}
 use mathlib.Core.Path.{_≡_}
-use mathlib.Core.Bool.{Bool, true, false, _&&_}
+use mathlib.Core.Bool.{Bool, true, false, _&&_, _||_}
 use mathlib.Core.List.{List, [], _∷_, _++_}
-use lib.Dec.{leb}
+use lib.Dec.{leb, ltb}
 use lib.IntN.{ℤ, pos, negsuc}
 use lib.ListN.{length, take, replicate}
 use lib.Ieee.{Float}
@@ -67,6 +67,10 @@ endFlow More ok = More
 endFlow Ended ok = writeFlow ok true
 endFlow Unread ok = Unread
 endFlow Unwritten ok = Unwritten
+
+-- the text was not one of the form, or its load was refused: the run is over, or something was left to print
+unfoldable pub notTaken : Run → ℕ → Bool
+notTaken t count = isOver (t .phase) || ltb 0 count
 
 -- ---- call after call
 

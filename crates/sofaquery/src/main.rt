@@ -13,7 +13,7 @@ ghost use mathlib.Core.Path.{_≡_};
 ghost use lib.ListN.{length};
 ghost use Rattle.queries.specs.Sound.{Sound};
 ghost use Rattle.queries.specs.Machine.{startRun, Front};
-ghost use Rattle.sofaquery.specs.Calls.{here, startHeld, startWent, goesOn, readFlow, afterRead, writeFlow, afterWrite, lastText, endFlow, Came, Ends};
+ghost use Rattle.sofaquery.specs.Calls.{here, startHeld, startWent, goesOn, readFlow, afterRead, writeFlow, afterWrite, lastText, endFlow, notTaken, Came, Ends};
 use queries::Run;
 
 // What came of the last call of the system.
@@ -196,11 +196,23 @@ fn end_flow(flow: Flow, ok: bool) -> Flow
     }
 }
 
-// Says on standard error what failed.
-fn tell(flow: Flow) {
+// The text was not one of the form, or its load was refused: the run was over before the text was, or there was something left to print.
+fn not_taken(run: Run, count: usize) -> bool
+    ensures { λ r. ⌜ r ≡ notTaken run count ⌝ }
+{
+    queries::is_over(run) | (0 < count)
+}
+
+// Says on standard error what failed, and where nothing did that the text was not taken: bin/sofaquery makes an exit status of it, since a
+// program of the language has none.
+fn tell(flow: Flow, bad: bool) {
     match flow {
         Flow::More => {}
-        Flow::Ended => {}
+        Flow::Ended => {
+            if bad {
+                io::write_all(2, b"sofaquery: a form error, or a refused load\n");
+            }
+        }
         Flow::Unread => {
             io::write_all(2, b"sofaquery: standard input could not be read\n");
         }
@@ -216,7 +228,9 @@ fn end(went: Went, buf: &[u8; 40000], out: &mut [u8; 73848])
     let count = last(went, buf, out);
     let ok = write(out, count);
     let flow = went.flow;
-    tell(end_flow(flow, ok));
+    let run = went.run;
+    let bad = not_taken(run, count);
+    tell(end_flow(flow, ok), bad);
 }
 
 fn main() {

@@ -143,7 +143,10 @@ fn queries(look: Lookup, cart: &[f32], left: &[u16], right: &[u16]) {
 
 // A table is filled over links that were built, and over no others.
 fn table(look: Lookup, cart: &[f32], left: &[u16], right: &[u16], angle: f32, radius: f32)
-    requires { ⌜ (24 ≤ length (now cart)) × (8 ≤ length (now left)) × (8 ≤ length (now right)) × BuiltBy look 8 (now cart) (now left) (now right) ⌝ }
+    requires { ⌜ (24 ≤ length (now cart))
+        × (8 ≤ length (now left))
+        × (8 ≤ length (now right))
+        × BuiltBy look 8 (now cart) (now left) (now right) ⌝ }
 {
     let mut near = [9u16; 51];
     let told = neighbors::fill_neighbors(look, 8, cart, left, right, angle, radius, &mut near);
@@ -162,7 +165,9 @@ fn try_set(look: Lookup, cart: &[f32], left: &[u16], right: &[u16]) {
 
 // The set as it is built, and then with a link that leads back to its owner.
 fn run(cart: &[f32], left: &mut [u16], right: &mut [u16])
-    requires { ⌜ (24 ≤ length (now cart)) × (8 ≤ length (now left)) × (8 ≤ length (now right)) ⌝ }
+    requires { ⌜ (24 ≤ length (now cart))
+        × (8 ≤ length (now left))
+        × (8 ≤ length (now right)) ⌝ }
 {
     let look = Lookup::new(cart, 8, left, right);
     print_bounds(look);

@@ -13,6 +13,9 @@ write-requires c κs = fits (c .before .before .last .ensures)
 end-flow-requires : tie.Need-end-flow-requires
 end-flow-requires c κs = search needs
 
+not-taken-requires : tie.Need-not-taken-requires
+not-taken-requires c κs = search needs
+
 tell-requires : tie.Need-tell-requires
 tell-requires c κs = search needs
 
@@ -21,4 +24,4 @@ returns c = search needs
 
 pub end-spec : {M : Type 1} → statement M
 end-spec =
-    tie.close (tie.spec last-requires write-requires end-flow-requires tell-requires returns)
+    tie.close (tie.spec last-requires write-requires not-taken-requires end-flow-requires tell-requires returns)
