@@ -1,5 +1,5 @@
 // Positions from Cartesian x, y, z to azimuth, elevation in degrees and radius, and back: one triplet, and lent
-// lists in place.
+// lists in place. x is ahead, y to the left, z up, in metres; azimuth is 0 ahead and 90 to the left, elevation 0 level, 90 up and -90 down.
 //
 // specs/Coords.antt has each step as document 01 and the source have it, rounded at each operation;
 // specs/Arrays.antt says what a list holds after a conversion. `turn_of` and `along` are the halves of
@@ -7,7 +7,7 @@
 //
 // proofs/Radii.antt: the radius of a finite point is a number and not negative. proofs/Places.antt:
 // a converted list, place by place. The crate `coord_laws`: a converted position whose radius was
-// allowed has coordinates of magnitude at most 10001.
+// allowed has coordinates of magnitude at most 10001, and no angle of an allowed conversion is refused.
 use limits::Verdict;
 use points::Point3;
 ghost use mathlib.Core.Path.{_≡_};
