@@ -87,9 +87,9 @@ const HOW: &str = "\
 One process, one run, release builds; the sides take turns in short batches, and the time is that of the least batch, so
 that a busy machine disturbs it least. Ratios above 1 (in bold): the port is faster. `source` is the Rust unchanged,
 `redirected` the Rust with the port's sine, cosine and arctangent. Instructions are callgrind's, of one call. `sphere`:
-directions at random; `grid`: every 5 degrees, in shells; `measured`: MIT KEMAR, its own responses. A load takes steps of
-0.5 degrees and 0.01. A round asks 4096 different queries, as a head that turns does; `find again` asks the same 64 in
-every round, to show whether a processor gains by learning them.
+directions at random; `grid`: every 5 degrees, in shells; `measured`: MIT KEMAR, its own responses. A load takes steps
+of 0.5 degrees and 0.01. A round asks 4096 different queries, as a head that turns does; `find again` asks the same 64
+in every round, to show whether a processor gains by learning them.
 ";
 
 pub fn write(timed: &str, counted: &str, facts: &str) {

@@ -40,5 +40,5 @@ fn used(host: &Host) -> usize {
 pub fn tell() {
     let (short, long) = (used(&chain(1024)), used(&chain(16384)));
     let level = (long - short) / (16384 - 1024);
-    println!("A search takes {level} bytes of stack a level on this machine; `find` in a chain of 16384 places took {long} bytes in all, {:.2} MiB.", long as f64 / 1048576.0);
+    println!("A search takes {level} bytes of stack a level on this machine; `find` in a chain of 16384 places took\n{long} bytes in all, {:.2} MiB.", long as f64 / 1048576.0);
 }
