@@ -2,9 +2,8 @@
 -- Assumes nothing.
 use Prim.Native.Nat.{ℕ}
 use mathlib.Core.Path.{_≡_, refl, ap, _∙_}
-use mathlib.Core.Bool.{Bool, true, not}
+use mathlib.Core.Bool.{true, not}
 use mathlib.Core.List.{List}
-use native.Mathlib.Omega.{arith}
 use lib.Ieee.{Float}
 use Rattle.points.specs.declared.Point3.{Point3}
 use Rattle.limits.specs.declared.Sizes.{Sizes}
@@ -12,17 +11,17 @@ use Rattle.limits.specs.declared.Lengths.{Lengths}
 use Rattle.limits.specs.declared.Verdict.{Verdict}
 use Rattle.limits.specs.declared.Verdict.the-variants as verdict
 use Rattle.limits.specs.Allowed.{treeFits, responsesFit, neighboursFit, plainFits, blendFits}
-use Rattle.limits.specs.Refusals.{verdictOf, badRate, queryLines, shortLists, findLines, filterLines}
+use Rattle.limits.specs.Refusals.{verdictOf, shortLists, findLines, filterLines}
 use Rattle.limits.proofs.Lines.{passed, goes-on}
 use Rattle.floats.proofs.Cross.{and-left}
 use borrow.Author.Tests.{not-false}
 use Rattle.lookup.specs.declared.Lookup.{Lookup}
 use Rattle.lookup.specs.declared.Located.{Located}
 use Rattle.lookup.specs.declared.Located.the-variants.{At, Refused}
-use Rattle.lookup.specs.Lookup.{treeLengths, locateOf, unless, findOf}
+use Rattle.lookup.specs.Lookup.{locateOf, unless, findOf}
 use Rattle.delays.specs.declared.Outcome.{Outcome}
 use Rattle.delays.specs.declared.Outcome.the-variants as outcome
-use Rattle.interpolate.specs.Blend.{Filter, refusedOf}
+use Rattle.interpolate.specs.Blend.{Filter}
 use Rattle.loads.specs.Load.{Work}
 use Rattle.reader.specs.Queries.{lengthsOf, allowed, nearestOr, filterSays}
 use Rattle.settext.specs.declared.State.{State}

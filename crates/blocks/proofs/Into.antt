@@ -1,13 +1,12 @@
 -- What is written into a list, one part after the other. Assumes nothing.
-use Prim.Native.Nat.{ℕ, suc, _+_, _-_, _≤_, _<_}
+use Prim.Native.Nat.{ℕ, suc, _+_, _-_, _<_}
 use mathlib.Core.Path.{_≡_, refl, sym, ap, _∙_}
 use mathlib.Core.List.{List, [], _∷_, _++_, append-assoc, append-nil}
 use native.Mathlib.Numerals.{add-one}
 use native.Mathlib.Omega.{arith}
-use lib.ListN.{length, take, drop, set, getD, length-append, length-take, length-drop, take-append-drop}
+use lib.ListN.{length, take, drop, set, getD, length-append, length-drop, take-append-drop}
 use lib.Seq.{take-at, drop-at, drop-drop, length-take-le, set-at, drop-cons, drop-length, take-all, take-suc}
 use Rattle.lists.specs.Over.{over}
-use Rattle.lists.proofs.Laws.{length-over, over-more}
 use Rattle.blocks.specs.Put.{into, FitsAt, Wrote}
 
 pub into-nil : (at : ℕ) (d : List ℕ) → into at [] d ≡ d

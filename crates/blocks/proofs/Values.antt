@@ -1,5 +1,5 @@
 -- How long values are in print, and one value more. Assumes nothing.
-use Prim.Native.Nat.{ℕ, zero, suc, _+_, _-_, _*_, _≤_, _<_}
+use Prim.Native.Nat.{ℕ, _+_, _-_, _*_, _≤_, _<_}
 use mathlib.Core.Path.{_≡_, refl, sym, ap, _∙_}
 use mathlib.Core.List.{List, [], _∷_, _++_, append-assoc, append-nil}
 use native.Mathlib.Numerals.{add-one}
@@ -10,7 +10,7 @@ use lib.Ieee.{Float}
 use Rattle.lists.proofs.Laws.{length-upto}
 use Rattle.text.specs.Print.{hexText, digitAt}
 use Rattle.text.specs.Values.{bitsOf}
-use Rattle.blocks.specs.Put.{into, FitsAt, Wrote}
+use Rattle.blocks.specs.Put.{FitsAt, Wrote}
 use Rattle.blocks.proofs.Into.{begin, then}
 use Rattle.blocks.specs.Blocks.{valueText, afterOne, listText}
 

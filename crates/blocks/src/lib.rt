@@ -3,8 +3,8 @@
 // `block` writes `blockOf` and `form_error` writes `formError` (specs/Blocks.antt) to the front of the list, and the rest of the list stays.
 // `block-room`, `refused-room` and `error-room` (proofs/Rooms.antt) say how many bytes are enough: 9 for each value and 120 more, 70 and 40.
 ghost use mathlib.Core.Path.{_≡_};
-ghost use Prim.Native.Nat.{_+_, _*_, _≤_};
-ghost use mathlib.Core.List.{[], _∷_, _++_};
+ghost use Prim.Native.Nat.{_+_, _≤_};
+ghost use mathlib.Core.List.{_∷_};
 ghost use lib.ListN.{length};
 ghost use Rattle.lists.specs.Over.{over};
 ghost use Rattle.blocks.specs.Put.{FitsAt, Wrote};

@@ -2,13 +2,11 @@
 use mathlib.Core.Path.{_≡_, refl, sym, ap, _∙_, subst}
 use mathlib.Core.Bool.{true, false}
 use lib.Dec.{T}
-use lib.IntN.{pos}
 use lib.Ieee.{Float, nan, inf, fin, binary32, add, sub, mul, lt, fits}
 use Rattle.floats.specs.Floats.{zero32}
 use Rattle.floats.proofs.Sign.{nonneg}
 use Rattle.floats.proofs.Cross.{of-taken}
 use Rattle.floats.proofs.Ops.{add-nonneg, plus-zero}
-use Rattle.points.specs.Points.{gap}
 use Rattle.points.proofs.Gap.{gap-comm, gap-outside}
 use Rattle.kdtree.specs.Geometry.{firm, Firm, outside}
 

@@ -6,7 +6,7 @@ use lib.Ieee.{Float, nan, inf, fin, binary32, round, ofBits, neg, le, lt, eq}
 use lib.Ieee.Scale.{finite}
 use Rattle.floats.proofs.Cross.{of-taken, and-left, and-right}
 use Rattle.floats.proofs.Preorder.{le-nan}
-use Rattle.limits.specs.Allowed.{nearest32, between, within, cartesianOk, angleOk, radiusOk, angleStepOk, radiusStepOk, rateOk}
+use Rattle.limits.specs.Allowed.{nearest32, between, within, angleOk, radiusOk, angleStepOk}
 
 pub tenth : nearest32 1 10 ≡ ofBits binary32 0x3dcccccd
 unfolding round ofBits
@@ -34,10 +34,6 @@ squeezed lo hi (fin s m e) a b l h = tt
 pub between-finite : (lo hi x : Float) → T (finite lo) → T (finite hi) → between lo hi x ≡ true → T (finite x)
 between-finite lo hi x a b e = squeezed lo hi x a b (between-low lo hi x e) (between-high lo hi x e)
 
-pub cartesian-finite : (x : Float) → cartesianOk x ≡ true → T (finite x)
-unfolding cartesianOk within round neg
-cartesian-finite x e = between-finite (neg (nearest32 10000 1)) (nearest32 10000 1) x tt tt e
-
 pub angle-finite : (x : Float) → angleOk x ≡ true → T (finite x)
 unfolding angleOk within round neg
 angle-finite x e = between-finite (neg (nearest32 720 1)) (nearest32 720 1) x tt tt e
@@ -49,11 +45,3 @@ radius-finite x e = between-finite (nearest32 0 1) (nearest32 10000 1) x tt tt e
 pub angle-step-finite : (x : Float) → angleStepOk x ≡ true → T (finite x)
 unfolding angleStepOk round
 angle-step-finite x e = between-finite (nearest32 1 10) (nearest32 45 1) x tt tt e
-
-pub radius-step-finite : (x : Float) → radiusStepOk x ≡ true → T (finite x)
-unfolding radiusStepOk round
-radius-step-finite x e = between-finite (nearest32 1 1000) (nearest32 1 1) x tt tt e
-
-pub rate-finite : (x : Float) → rateOk x ≡ true → T (finite x)
-unfolding rateOk round
-rate-finite x e = between-finite (nearest32 1000 1) (nearest32 384000 1) x tt tt e

@@ -29,7 +29,7 @@ use Rattle.queries.specs.declared.Phase.{Phase}
 use Rattle.queries.specs.declared.Phase.the-variants.{Ready, Over}
 use Rattle.queries.specs.Program.{Session, session, Turn, turnAs, stateIn, isOver, phaseAfter, loadTurn, byLoad, blockIn, stepTurn, afterTurn, lineTurn, Ears, earsOf, stepEars, afterEars, lineEars}
 use Rattle.queries.specs.Sound.{Few, SoundPhase}
-use Rattle.queries.specs.Machine.{betweenBytes, Advance, advanceAs, lineAdvance, partAdvance, advanceOf, partEars, advanceEars, Front, TurnSays}
+use Rattle.queries.specs.Machine.{betweenBytes, advanceAs, lineAdvance, partAdvance, advanceOf, partEars, advanceEars, Front, TurnSays}
 
 -- once over, nothing is read and nothing printed
 pub silent : (room : ℕ) (a : At Session) (s : List ℕ) → isOver (a .known .phase) ≡ true → advanceOf room a s ≡ advanceAs a [] []

@@ -1,6 +1,6 @@
 -- `blocks::more_values` meets its contract. Assumes nothing.
 use Prim.Native.Nat.{_-_, _≤_}
-use mathlib.Core.Path.{_≡_, sym, _∙_}
+use mathlib.Core.Path.{_≡_, _∙_}
 use mathlib.Core.List.{_∷_}
 use native.Mathlib.Omega.{arith}
 use lib.ListN.{length, take, getD}
@@ -9,7 +9,7 @@ use lib.Ieee.{nan}
 use denote.Ref.{now}
 use Rattle.blocks.specs.Put.{FitsAt, Wrote}
 use Rattle.blocks.specs.Blocks.{valueText, afterOne}
-use Rattle.blocks.proofs.Into.{begin, room-right}
+use Rattle.blocks.proofs.Into.{room-right}
 use Rattle.blocks.proofs.Values.{nothing, room-next, turn}
 use borrow.Author.Needs.{needs}
 use Rattle.blocks.proofs.more_values.Statement.{statement}

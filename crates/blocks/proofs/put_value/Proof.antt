@@ -1,13 +1,12 @@
 -- `blocks::put_value` meets its contract. Assumes nothing.
-use Prim.Native.Nat.{ℕ, _+_, _-_}
-use mathlib.Core.Path.{_≡_, sym, ap, _∙_}
+use Prim.Native.Nat.{ℕ, _-_}
+use mathlib.Core.Path.{ap, _∙_}
 use mathlib.Core.List.{List}
 use native.Mathlib.Omega.{arith}
 use lib.ListN.{length, take, drop, length-take, length-drop}
 use denote.Ref.{now}
 use Rattle.lists.specs.Over.{over}
 use Rattle.text.specs.Print.{hexText}
-use Rattle.blocks.specs.Put.{into, FitsAt, Wrote}
 use Rattle.blocks.specs.Blocks.{valueText}
 use Rattle.blocks.proofs.Into.{tail}
 use Rattle.blocks.proofs.Values.{value-length}

@@ -1,9 +1,6 @@
 use borrow.Author.Needs.{needs}
 use Rattle.queries.proofs.finish.Statement.{statement}
 use Rattle.queries.proofs.finish.Tie as tie
-use Rattle.queries.proofs.finish.Reads as reads
-use Rattle.queries.proofs.finish.Lts as lts
-use Rattle.queries.proofs.closing_of.Reads as closing-of-reads
 
 -- src/lib.rt:377:5
 closing-of-requires : tie.Need-closing-of-requires

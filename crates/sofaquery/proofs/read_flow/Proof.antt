@@ -7,7 +7,6 @@ use mir.ValLaws.{toZ-ofZ}
 use Rattle.sofaquery.specs.declared.Flow.the-variants.{More, Ended, Unread}
 use Rattle.sofaquery.specs.Calls.{readFlow}
 use Rattle.sofaquery.proofs.Turns.{failed, no-more, some-more}
-use borrow.Author.Needs.{needs}
 use Rattle.sofaquery.proofs.read_flow.Statement.{statement}
 use Rattle.sofaquery.proofs.read_flow.Tie as tie
 

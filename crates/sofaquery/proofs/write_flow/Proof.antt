@@ -1,6 +1,5 @@
 -- `sofaquery::write_flow` meets its contract. Assumes nothing.
 use Rattle.sofaquery.proofs.Turns.{unwritten, all-done, not-done}
-use borrow.Author.Needs.{needs}
 use Rattle.sofaquery.proofs.write_flow.Statement.{statement}
 use Rattle.sofaquery.proofs.write_flow.Tie as tie
 
