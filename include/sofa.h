@@ -52,11 +52,11 @@
  * library. It needs the C library's memset and fmodf, so link -lm behind it, and nothing else. A shared library that should not hand
  * these names on, a plug-in for one, of which a process may hold two, is linked with -Wl,--exclude-libs,ALL (GNU ld and lld).
  *
- * Time (docs/SPEED.md): a find takes 0.5 to 2 microseconds, a filter of 512 taps 1 to 4. A load with steps 0.5 and 0.01 takes 6 ms for
- * 1000 measurements at random on a sphere, 90 ms for 16384, and up to five times as long on a grid. What makes it longer is order: a set
- * sorted along all three axes is one chain, 0.7 s for 4096 and four times as much for each doubling. Worst is one ring in order of azimuth,
- * where most points lie as near to many measurements: 0.7 s for 1024 and 3.4 s for 2048, a tenth of it for the same ring in no order.
- * Steps of 0.1 and 0.001 take three times as long as these. No load belongs on an audio thread.
+ * Time (docs/SPEED.md): a find takes 0.5 to 2 microseconds, a filter of 512 taps 1 to 4. A load with steps 0.5 and 0.01 takes 6 to 9 ms for
+ * 1000 measurements at random on a sphere, 0.1 s for 16384, and up to five times as long on a grid. What makes it longer is order: a set
+ * sorted along all three axes is one chain, 3.2 s for 4096, and one ring in order of azimuth, where most points lie as near to many
+ * measurements, takes 1.1 s for 1024 and 3.4 s for 2048, a sixth of it for the same ring in no order. Steps of 0.1 and 0.001 take three to
+ * five times as long as these. No load belongs on an audio thread.
  */
 #ifndef SOFA_H
 #define SOFA_H
