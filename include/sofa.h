@@ -147,9 +147,9 @@ typedef struct {
  *
  * sofa_enter puts the default environment in force for this thread and hands back the host's, sofa_leave puts that back in force: rounding,
  * flushing, masks and the flags that were raised before; what the calls between them raised is forgotten. Leave the host's own arithmetic
- * outside: a compiler may move it across either of the two. Both together take some 40 ns around a short call. A thread whose environment nobody changed needs
- * neither. They are for gcc and clang on x86-64 and on 64-bit Arm; elsewhere they are not declared, so that a host that asks for them is
- * not built.
+ * outside: a compiler may move it across either of the two. Both together take some 40 ns around a short call. A thread whose environment
+ * nobody changed needs neither. They are for gcc and clang on x86-64 and on 64-bit Arm; elsewhere they are not declared, so that a host
+ * that asks for them is not built.
  */
 typedef struct { uint32_t control, status; } sofa_environment;
 
