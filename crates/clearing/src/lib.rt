@@ -16,7 +16,7 @@ ghost use mathlib.Core.Bool.{cond};
 ghost use Prim.Native.Nat.{ℕ, _-_, _*_, _<_, _≤_};
 ghost use lib.Dec.{ltb};
 ghost use lib.ListN.{length};
-ghost use Rattle.kdtree.specs.Tree.{subtree};
+ghost use Rattle.kdtree.specs.Tree.{TreeHolds, subtree};
 ghost use Rattle.points.specs.Points.{pointAt, distSq};
 ghost use Rattle.clearing.specs.Clearing.{strictlyBetween, holds, farAxis, drawnIn, heldIn, met, reaches, cleared, none, clearingOf, reachAfter, nearerThanFaces, aloneIn, nearer, listedCount, nearestWithin};
 
@@ -123,10 +123,7 @@ fn clear_rec(
     kept: Kept,
 ) -> Kept
     requires { ⌜ (node < m)
-        × (3 * m ≤ length (now (now xs)))
-        × (m ≤ length (now (now left)))
-        × (m ≤ length (now (now right)))
-        × (m ≤ 16384)
+        × TreeHolds m (now (now xs)) (now (now left)) (now (now right))
         × (own < m) ⌝ }
     ensures { λ r. ⌜ ((f : ℕ) → m - node ≤ f
         → heldIn r (now (places .exit))
@@ -178,10 +175,7 @@ pub fn clear(
     step: f32,
 ) -> Clearing
     requires { ⌜ (own < m)
-        × (3 * m ≤ length (now xs))
-        × (m ≤ length (now left))
-        × (m ≤ length (now right))
-        × (m ≤ 16384) ⌝ }
+        × TreeHolds m (now xs) (now left) (now right) ⌝ }
     ensures { λ r. ⌜ r ≡ clearingOf own (pointAt (now (xs .entry)) own) (subtree (now (left .entry)) (now (right .entry)) (now (xs .entry)) m m 0) reach step ⌝ }
 {
     let p = points::point_at(xs, own);

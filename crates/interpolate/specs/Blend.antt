@@ -1,7 +1,7 @@
 -- Document 01's "Blend": which points are blended with which weights, which delays are meant, and what a filter query then answers and writes.
 -- Definitions only.
 use mathlib.Core.Path.{_≡_}
-use Prim.Native.Nat.{ℕ, _+_, _*_, _<_}
+use Prim.Native.Nat.{ℕ, _+_, _*_, _<_, _≤_}
 use mathlib.Core.Bool.{Bool, true, false, cond, _&&_}
 use mathlib.Core.List.{List, [], _∷_, _++_, map}
 use lib.Dec.{eqb, leb, ltb}
@@ -36,6 +36,10 @@ tiny32 = ofBits binary32 0x2edbe6ff
 
 abbrev pub largest32 : Float
 largest32 = ofBits binary32 0x7f7fffff
+
+-- the Cartesian positions and the six neighbours of m measurements are there
+abbrev pub TableHolds : ℕ → List Float → List ℕ → Type 0
+TableHolds m cartesian neighbours = (3 * m ≤ length cartesian) × (6 * m ≤ length neighbours)
 
 -- how far measurement k is from the query
 unfoldable pub distanceOf : List Float → Point3 → ℕ → Float

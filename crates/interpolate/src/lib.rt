@@ -12,7 +12,7 @@ ghost use Prim.Native.Nat.{ℕ, _+_, _*_, _≤_, _<_};
 ghost use lib.ListN.{length};
 ghost use Rattle.floats.specs.Floats.{zero32};
 ghost use Rattle.mix.specs.Mix.{sums, listOf, Sized, Placed};
-ghost use Rattle.interpolate.specs.Blend.{distanceOf, entryIn, badBeyond, good, least, closer, metIf, closestOf, Held, taken, neighborsOf, pointsOf, allKnown, Gathers, totalOf, part, strideOf, delayAt, plainDelay, blendDelay, filterOf, extractOf, blendOf, refusedOf, interpolateOf};
+ghost use Rattle.interpolate.specs.Blend.{TableHolds, distanceOf, entryIn, badBeyond, good, least, closer, metIf, closestOf, Held, taken, neighborsOf, pointsOf, allKnown, Gathers, totalOf, part, strideOf, delayAt, plainDelay, blendDelay, filterOf, extractOf, blendOf, refusedOf, interpolateOf};
 ghost use Rattle.interpolate.specs.Blend as Blend;
 use delays::Outcome;
 use delays::Samples;
@@ -180,8 +180,7 @@ fn closer_neighbor(
 ) -> Met
     requires { ⌜ (j ≤ 4)
         × (k < m)
-        × (3 * m ≤ length (now cartesian))
-        × (6 * m ≤ length (now neighbours)) ⌝ }
+        × TableHolds m (now cartesian) (now neighbours) ⌝ }
     ensures { λ r. ⌜ r ≡ metIf (Blend.known m (Blend.entry (now (neighbours .entry)) k j) && Blend.known m (Blend.entry (now (neighbours .entry)) k (j + 1)))
         (closestOf (distanceOf (now (cartesian .entry)) position) (Blend.entry (now (neighbours .entry)) k j) (Blend.entry (now (neighbours .entry)) k (j + 1))) ⌝ }
 {
@@ -204,8 +203,7 @@ fn gather(
     d: f32,
 ) -> Gathered
     requires { ⌜ (nearest < m)
-        × (3 * m ≤ length (now cartesian))
-        × (6 * m ≤ length (now neighbours))
+        × TableHolds m (now cartesian) (now neighbours)
         × (d ≡ distanceOf (now cartesian) position nearest) ⌝ }
     ensures { λ r. ⌜ Gathers m (allKnown m (neighborsOf (now (neighbours .entry)) nearest))
         (pointsOf (distanceOf (now (cartesian .entry)) position) (neighborsOf (now (neighbours .entry)) nearest) nearest) r ⌝ }
@@ -454,8 +452,7 @@ pub fn interpolate(
 ) -> Outcome
     requires { ⌜ Sized m r n
         × (nearest < m)
-        × (3 * m ≤ length (now cartesian))
-        × (6 * m ≤ length (now neighbours))
+        × TableHolds m (now cartesian) (now neighbours)
         × (m * r * n ≤ length (now responses)) ⌝ }
     ensures { λ o. ⌜ filterOf o (now (left .exit)) (now (right .exit))
         ≡ interpolateOf m r n (now (responses .entry)) (now (delays .entry)) rate (length (now (left .entry))) (length (now (right .entry)))

@@ -276,17 +276,20 @@ module _ (left right : List ℕ) (xs : List Float) (count : ℕ) where
           pub ek : lk ≡ linkOf count n l
 
         module _ (t : Best) (k : There t) where
-          pub far-gone : k .lk ≡ Gone → Far t (Found t)
-          unfolding side sideOf farther
-          far-gone e f hf =
-              let z : linkOf count n (far (h .g) n) ≡ Gone = cc in
-              rw z
-
-          pub far-bad : k .lk ≡ Bad → Far t Stopped
+          far-bad : k .lk ≡ Bad → Far t Stopped
           unfolding side sideOf farther
           far-bad e f hf =
               let z : linkOf count n (far (h .g) n) ≡ Bad = cc in
               rw z
+
+          -- a farther side that is not absent and leads nowhere is bad
+          pub far-nowhere : (k .l ≡ 65535 → ⊥) → Nowhere (k .lk) → Far t Stopped
+          far-nowhere z w = go (k .lk) refl w
+            where
+              go : (x : Link) → k .lk ≡ x → Nowhere x → Far t Stopped
+              go Gone ex w = absurd (z (gone-is count n (k .l) (sym (k .ek) ∙ ex)))
+              go Bad ex w = far-bad ex
+              go (To j) ex w = absurd (⊎-elim (λ z. omega (arith, z)) (λ z. omega (arith, z)) w)
 
           pub far-in : (m : ℕ) (fb : BoundingBox) (y : Bool) (r : Searched) → k .lk ≡ To m → fb ≡ fartherBox (h .g) b axis (h .v)
               → y ≡ lt (boxDistSq (fartherBox (h .g) b axis (h .v)) q) (t .dist) → y ≡ true → After m fb (h .nx) t r → Far t r

@@ -1,8 +1,8 @@
 -- The tree that the links draw.
-use Prim.Native.Nat.{ℕ, zero, suc}
+use Prim.Native.Nat.{ℕ, zero, suc, _*_, _≤_}
 use mathlib.Core.Bool.{cond}
 use mathlib.Core.List.{List}
-use lib.ListN.{getD}
+use lib.ListN.{length, getD}
 use lib.Dec.{eqb, ltb}
 use lib.Ieee.{Float}
 use Rattle.points.specs.declared.Point3.{Point3}
@@ -15,6 +15,10 @@ pub data Tree : Type 0 where
   gone : Tree
   bad : Tree
   node : ℕ → Point3 → Tree → Tree → Tree
+
+-- the three lists of a tree reach as far as its places do, and it has at most 16384
+abbrev pub TreeHolds : ℕ → List Float → List ℕ → List ℕ → Type 0
+TreeHolds count positions left right = (3 * count ≤ length positions) × (count ≤ length left) × (count ≤ length right) × (count ≤ 16384)
 
 -- what the link l of the owner o says among count places: absent, or good when above its owner and below the count
 unfoldable pub linkOf : ℕ → ℕ → ℕ → Link

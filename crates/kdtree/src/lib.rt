@@ -12,7 +12,7 @@ ghost use mathlib.Core.Bool.{cond};
 ghost use Prim.Native.Nat.{ℕ, _+_, _-_, _*_, _<_, _≤_};
 ghost use lib.ListN.{length};
 ghost use Rattle.kdtree.specs.Geometry.{byAxis, coordOf, nextAxis, Firm, outside, boxDistSq, boxAt, lower, upper, grown, minAt, maxAt, cornerOf, withMin, withMax, goesLeft};
-ghost use Rattle.kdtree.specs.Tree.{linkOf, subtree};
+ghost use Rattle.kdtree.specs.Tree.{TreeHolds, linkOf, subtree};
 ghost use Rattle.kdtree.specs.Search.{search, improve, visited, afterNear, nearerBox, fartherBox};
 ghost use Rattle.kdtree.specs.declared.Searched.the-variants.{Found};
 ghost use Rattle.points.specs.Points.{pointAt, distSq};
@@ -364,10 +364,7 @@ fn nearest_rec(
     best: Best,
 ) -> Searched
     requires { ⌜ (node < m)
-        × (3 * m ≤ length (now (now xs)))
-        × (m ≤ length (now (now left)))
-        × (m ≤ length (now (now right)))
-        × (m ≤ 16384)
+        × TreeHolds m (now (now xs)) (now (now left)) (now (now right))
         × (axis < 3) ⌝ }
     ensures { λ r. ⌜ ((f : ℕ) → m - node ≤ f
         → r ≡ search m (pointAt (now (q .entry)) 0) (subtree (now (now (left .entry))) (now (now (right .entry))) (now (now (xs .entry))) m f node) rect axis best) ⌝ }
@@ -388,8 +385,7 @@ fn nearest_rec(
     let nearer = either(go_left, l, r);
     let farther = either(go_left, r, l);
     if farther == 65535 {
-        let only_side = link_of(m, node, nearer);
-        let Link::To(n) = only_side else {
+        let Link::To(n) = link_of(m, node, nearer) else {
             return Searched::Stopped;
         };
         let near = nearer_box(rect, axis, v, go_left);
@@ -404,22 +400,18 @@ fn nearest_rec(
         }
         Link::Bad => Searched::Stopped,
     };
-    let met = then_node(after, node as u16, d);
-    let Searched::Found(b) = met else {
+    let Searched::Found(b) = then_node(after, node as u16, d) else {
         return Searched::Stopped;
     };
-    match link_of(m, node, farther) {
-        Link::Gone => return Searched::Found(b),
-        Link::Bad => return Searched::Stopped,
-        Link::To(n) => {
-            if far_is_nearer(rect, axis, v, go_left, q, b.dist) {
-                let far = farther_box(rect, axis, v, go_left);
-                let last = nearest_rec(xs, left, right, m, q, far, n, next, b);
-                return last;
-            }
-            return Searched::Found(b);
-        }
+    let Link::To(n) = link_of(m, node, farther) else {
+        return Searched::Stopped;
+    };
+    if !far_is_nearer(rect, axis, v, go_left, q, b.dist) {
+        return Searched::Found(b);
     }
+    let far = farther_box(rect, axis, v, go_left);
+    let last = nearest_rec(xs, left, right, m, q, far, n, next, b);
+    last
 }
 
 // The place nearest to the query, among those below the root: the search begins with the root as best.
@@ -433,10 +425,7 @@ pub fn nearest_place(
     q: Point3,
 ) -> Searched
     requires { ⌜ (root < count)
-        × (3 * count ≤ length (now positions))
-        × (count ≤ length (now left))
-        × (count ≤ length (now right))
-        × (count ≤ 16384) ⌝ }
+        × TreeHolds count (now positions) (now left) (now right) ⌝ }
     ensures { λ r. ⌜ r ≡ foundFrom (now (positions .entry)) (now (left .entry)) (now (right .entry)) count root bounds q ⌝ }
 {
     let dist = points::dist_sq(points::point_at(positions, root), q);
@@ -535,9 +524,7 @@ pub fn insert_rec(
     axis: u8,
 ) -> Slot
     requires { ⌜ (node < count)
-        × (3 * count ≤ length (now positions))
-        × (count ≤ length (now left))
-        × (count ≤ length (now right)) ⌝ }
+        × TreeHolds count (now positions) (now left) (now right) ⌝ }
     ensures { λ r. ⌜ ((f : ℕ) → count - node ≤ f
         → r ≡ slotIn p (subtree (now (left .entry)) (now (right .entry)) (now (positions .entry)) count f node) axis) ⌝ }
 {

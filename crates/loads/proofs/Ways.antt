@@ -10,6 +10,7 @@ use lib.Seq.{take-length, drop-length}
 use lib.Ieee.{Float}
 use borrow.Author.Tests.{eq-eqb, ne-eqb}
 use Rattle.lists.specs.Over.{over, upto}
+use Rattle.kdtree.specs.Tree.{TreeHolds}
 use Rattle.limits.specs.declared.Sizes.{Sizes}
 use Rattle.limits.specs.declared.Verdict.{Verdict}
 use Rattle.limits.specs.declared.Verdict.the-variants as verdict
@@ -107,10 +108,10 @@ module _ (kind : ℕ) (s : Sizes) (xs : List Float) (responses : ℕ) (angle rad
     pub exact : length xs ≡ 3 * s .m
     exact = went .room .exact
 
-    pub room : (0 < s .m) × (s .m ≤ 16384) × (3 * s .m ≤ length (d .cartesian)) × (s .m ≤ length (d .left)) × (s .m ≤ length (d .right)) × (6 * s .m ≤ length (d .neighbours))
+    pub room : (0 < s .m) × TreeHolds (s .m) (d .cartesian) (d .left) (d .right) × (6 * s .m ≤ length (d .neighbours))
     room =
         let b = went .room .blend in
-        (went .sizes .some, went .sizes .most, b .plain .tree .cartesian, b .plain .tree .left, b .plain .tree .right, b .neighbours)
+        (went .sizes .some, (b .plain .tree .cartesian, b .plain .tree .left, b .plain .tree .right, went .sizes .most), b .neighbours)
 
     pub ready : (x : Load) (c : List Float) → c ≡ over (cartesianFrom kind xs) (d .cartesian) → x ≡ indexed (s .m) angle radius (workOf (d .left) (d .right) (d .neighbours) c)
         → x ≡ loadOf kind s xs responses angle radius rate d

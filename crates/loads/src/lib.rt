@@ -13,6 +13,7 @@ use lookup::Lookup;
 ghost use mathlib.Core.Path.{_≡_};
 ghost use Prim.Native.Nat.{_*_, _<_, _≤_};
 ghost use lib.ListN.{length};
+ghost use Rattle.kdtree.specs.Tree.{TreeHolds};
 ghost use Rattle.loads.specs.Load.{cartesianFrom, workOf, loadAs, indexed, loadOf};
 
 // What the queries of the set go by, or document 01's number and place.
@@ -46,10 +47,7 @@ fn index(
     cartesian: &[f32],
 ) -> Loaded
     requires { ⌜ (0 < m)
-        × (m ≤ 16384)
-        × (3 * m ≤ length (now cartesian))
-        × (m ≤ length (now left))
-        × (m ≤ length (now right))
+        × TreeHolds m (now cartesian) (now left) (now right)
         × (6 * m ≤ length (now neighbours)) ⌝ }
     ensures { λ r. ⌜ loadAs r (workOf (now (left .exit)) (now (right .exit)) (now (neighbours .exit)) (now (cartesian .entry)))
         ≡ indexed m «angle_step» «radius_step» (workOf (now (left .entry)) (now (right .entry)) (now (neighbours .entry)) (now (cartesian .entry))) ⌝ }

@@ -20,6 +20,7 @@ ghost use Prim.Native.Nat.{_+_, _*_, _<_, _≤_};
 ghost use lib.ListN.{length};
 ghost use Rattle.lookup.specs.Build.{linksOf, ownedAt, linked, overBoth, unmeasured, widened, lookupOf, builtAs, buildOf};
 ghost use Rattle.lookup.specs.Lookup.{scaled, clampedBy, locatedBy, locateOf, findOf, verdictIn, movedAs, findMutOf};
+ghost use Rattle.kdtree.specs.Tree.{TreeHolds};
 ghost use Rattle.kdtree.specs.Nearest.{placeFound};
 
 // Azimuth phi and elevation theta in degrees.
@@ -65,10 +66,7 @@ fn link_place(positions: &[f32], left: &mut [u16], right: &mut [u16], n: usize)
 // Links the first m places in order.
 fn link_all(positions: &[f32], left: &mut [u16], right: &mut [u16], m: usize)
     requires { ⌜ (0 < m)
-        × (m ≤ 16384)
-        × (3 * m ≤ length (now positions))
-        × (m ≤ length (now left))
-        × (m ≤ length (now right)) ⌝ }
+        × TreeHolds m (now positions) (now left) (now right) ⌝ }
     ensures { λ _. ⌜ linksOf (now (left .exit)) (now (right .exit)) ≡ overBoth (linked (now (positions .entry)) m) (linksOf (now (left .entry)) (now (right .entry))) ⌝ }
 {
     left[0] = 65535;
@@ -137,10 +135,7 @@ impl Lookup {
     // Links the first m places of a Cartesian list in place order, and answers their box and bounds.
     pub fn new(positions: &[f32], m: usize, left: &mut [u16], right: &mut [u16]) -> Self
         requires { ⌜ (0 < m)
-            × (m ≤ 16384)
-            × (3 * m ≤ length (now positions))
-            × (m ≤ length (now left))
-            × (m ≤ length (now right)) ⌝ }
+            × TreeHolds m (now positions) (now left) (now right) ⌝ }
         ensures { λ r. ⌜ builtAs r (linksOf (now (left .exit)) (now (right .exit))) ≡ buildOf (now (positions .entry)) m (linksOf (now (left .entry)) (now (right .entry))) ⌝ }
     {
         link_all(positions, left, right, m);
@@ -171,10 +166,7 @@ impl Lookup {
         p: Point3,
     ) -> Located
         requires { ⌜ (0 < m)
-            × (3 * m ≤ length (now cartesian))
-            × (m ≤ length (now left))
-            × (m ≤ length (now right))
-            × (m ≤ 16384) ⌝ }
+            × TreeHolds m (now cartesian) (now left) (now right) ⌝ }
         ensures { λ r. ⌜ r ≡ locatedBy (placeFound (now (cartesian .entry)) (now (left .entry)) (now (right .entry)) m (self .bounds) p) ⌝ }
     {
         let searched = kdtree::nearest_place(m, 0, self.bounds, cartesian, left, right, p);
@@ -194,10 +186,7 @@ impl Lookup {
         q: Point3,
     ) -> Located
         requires { ⌜ (0 < m)
-            × (3 * m ≤ length (now cartesian))
-            × (m ≤ length (now left))
-            × (m ≤ length (now right))
-            × (m ≤ 16384) ⌝ }
+            × TreeHolds m (now cartesian) (now left) (now right) ⌝ }
         ensures { λ r. ⌜ r ≡ locateOf self m (now (cartesian .entry)) (now (left .entry)) (now (right .entry)) q ⌝ }
     {
         let p = self.normalize_radius(q);

@@ -27,6 +27,7 @@ ghost use Prim.Native.Nat.{_+_, _*_, _<_, _≤_};
 ghost use lib.Dec.{ltb};
 ghost use lib.ListN.{length};
 ghost use lib.Ieee.{eq};
+ghost use Rattle.kdtree.specs.Tree.{TreeHolds};
 ghost use Rattle.floats.specs.Floats.{zero32};
 ghost use Rattle.coords.specs.Coords.{turnOf};
 ghost use Rattle.lookup.specs.Lookup.{locateOf};
@@ -89,7 +90,8 @@ fn locate_around(
     around: Clearing,
     q: Point3,
 ) -> Located
-    requires { ⌜ (own < m) × (3 * m ≤ length (now cartesian)) × (m ≤ length (now left)) × (m ≤ length (now right)) × (m ≤ 16384)
+    requires { ⌜ (own < m)
+        × TreeHolds m (now cartesian) (now left) (now right)
         × Surrounds look m (now cartesian) (now left) (now right) own around ⌝ }
     ensures { λ r. ⌜ r ≡ locateOf look m (now (cartesian .entry)) (now (left .entry)) (now (right .entry)) q ⌝ }
 {
@@ -127,7 +129,8 @@ fn search_direction(
     step: Spherical,
     cap: u32,
 ) -> Reached
-    requires { ⌜ (own < m) × (3 * m ≤ length (now cartesian)) × (m ≤ length (now left)) × (m ≤ length (now right)) × (m ≤ 16384)
+    requires { ⌜ (own < m)
+        × TreeHolds m (now cartesian) (now left) (now right)
         × Surrounds look m (now cartesian) (now left) (now right) own around ⌝ }
     ensures { λ r. ⌜ r ≡ directionOf look m (now (cartesian .entry)) (now (left .entry)) (now (right .entry)) own from step cap ⌝ }
 {
@@ -202,7 +205,9 @@ fn find_neighbors(
     around: Clearing,
     neighbours: &mut [u16],
 ) -> Verdict
-    requires { ⌜ (own < m) × (3 * m ≤ length (now cartesian)) × (m ≤ length (now left)) × (m ≤ length (now right)) × (m ≤ 16384) × (6 * m ≤ length (now neighbours))
+    requires { ⌜ (own < m)
+        × TreeHolds m (now cartesian) (now left) (now right)
+        × (6 * m ≤ length (now neighbours))
         × Surrounds look m (now cartesian) (now left) (now right) own around ⌝ }
     ensures { λ r. ⌜ tabledAs r (now (neighbours .exit)) ≡ rowOf look m (now (cartesian .entry)) (now (left .entry)) (now (right .entry)) «angle_step» «radius_step» own (now (neighbours .entry)) ⌝ }
 {
@@ -246,7 +251,8 @@ pub fn fill_neighbors(
     radius_step: f32,
     neighbours: &mut [u16],
 ) -> Verdict
-    requires { ⌜ (3 * m ≤ length (now cartesian)) × (m ≤ length (now left)) × (m ≤ length (now right)) × (m ≤ 16384) × (6 * m ≤ length (now neighbours))
+    requires { ⌜ TreeHolds m (now cartesian) (now left) (now right)
+        × (6 * m ≤ length (now neighbours))
         × BuiltBy look m (now cartesian) (now left) (now right) ⌝ }
     ensures { λ r. ⌜ tabledAs r (now (neighbours .exit)) ≡ tableOf look m (now (cartesian .entry)) (now (left .entry)) (now (right .entry)) «angle_step» «radius_step» (now (neighbours .entry)) ⌝ }
 {

@@ -5,6 +5,7 @@ use mathlib.Core.List.{List}
 use lib.ListN.{length}
 use lib.Ieee.{Float}
 use Rattle.points.specs.declared.Point3.{Point3}
+use Rattle.kdtree.specs.Tree.{TreeHolds}
 use Rattle.limits.specs.declared.Sizes.{Sizes}
 use Rattle.limits.specs.declared.TreeLengths.{TreeLengths}
 use Rattle.limits.specs.declared.Verdict.{Verdict}
@@ -17,7 +18,7 @@ use Rattle.lookup.specs.declared.Located.{Located}
 use Rattle.lookup.specs.declared.Located.the-variants.{At, Refused}
 use Rattle.lookup.specs.Lookup.{verdictIn, locateOf, treeLengths}
 use Rattle.mix.specs.Mix.{Sized}
-use Rattle.interpolate.specs.Blend.{Filter, extractOf, interpolateOf}
+use Rattle.interpolate.specs.Blend.{TableHolds, Filter, extractOf, interpolateOf}
 use Rattle.reader.specs.Queries.{refusedBy, allowed, nearestOr, lengthsOf, filterSays, plainSays, numberSays}
 use Rattle.reader.proofs.Near.{located-below}
 
@@ -62,12 +63,12 @@ module _ (s : Sizes) (look : Lookup) (cart : List Float) (left right neigh : Lis
     room : passed.BlendRoom s (lengthsOf cart left right resp neigh)
     room = passed.blend-room s (lengthsOf cart left right resp neigh) (went .fits)
 
-    pub filter-search : (0 < s .m) × (3 * s .m ≤ length cart) × (s .m ≤ length left) × (s .m ≤ length right) × (s .m ≤ 16384)
-    filter-search = (went .sizes .some, room .plain .tree .cartesian, room .plain .tree .left, room .plain .tree .right, went .sizes .most)
+    pub filter-search : (0 < s .m) × TreeHolds (s .m) cart left right
+    filter-search = (went .sizes .some, (room .plain .tree .cartesian, room .plain .tree .left, room .plain .tree .right, went .sizes .most))
 
     pub filter-blend : (k : ℕ) (found : Located) → found ≡ locateOf look (s .m) cart left right q → found ≡ At k
-        → Sized (s .m) (s .r) (s .n) × (k < s .m) × (3 * s .m ≤ length cart) × (6 * s .m ≤ length neigh) × (s .m * s .r * s .n ≤ length resp)
-    filter-blend k found e h = (sized s (went .sizes), located-below look (s .m) cart left right q k (went .sizes .some) (sym h ∙ e), room .plain .tree .cartesian, room .neighbours, room .plain .taps)
+        → Sized (s .m) (s .r) (s .n) × (k < s .m) × TableHolds (s .m) cart neigh × (s .m * s .r * s .n ≤ length resp)
+    filter-blend k found e h = (sized s (went .sizes), located-below look (s .m) cart left right q k (went .sizes .some) (sym h ∙ e), (room .plain .tree .cartesian, room .neighbours), room .plain .taps)
 
   module _ (ll rl : ℕ) where
     abbrev blended : ℕ → Filter
@@ -107,8 +108,8 @@ module _ (s : Sizes) (look : Lookup) (cart : List Float) (left right : List ℕ)
     plain-room : passed.PlainRoom s (treeLengths cart left right) (length resp)
     plain-room = passed.plain-room s (treeLengths cart left right) (length resp) (plain-went .fits)
 
-    pub plain-search : (0 < s .m) × (3 * s .m ≤ length cart) × (s .m ≤ length left) × (s .m ≤ length right) × (s .m ≤ 16384)
-    plain-search = (plain-went .sizes .some, plain-room .tree .cartesian, plain-room .tree .left, plain-room .tree .right, plain-went .sizes .most)
+    pub plain-search : (0 < s .m) × TreeHolds (s .m) cart left right
+    plain-search = (plain-went .sizes .some, (plain-room .tree .cartesian, plain-room .tree .left, plain-room .tree .right, plain-went .sizes .most))
 
     pub plain-extract : (k : ℕ) (found : Located) → found ≡ locateOf look (s .m) cart left right q → found ≡ At k
         → Sized (s .m) (s .r) (s .n) × (k < s .m) × (s .m * s .r * s .n ≤ length resp)

@@ -142,10 +142,10 @@ module _ (t : ℕ) (c : Tested t) where
   other = let a = st t (c .before .before) .args in step.far (now (now (a .left))) (now (now (a .right))) (now (now (a .xs))) (a .m) (a .own) (pointAt (now (now (a .xs))) (a .own)) (lt (here .w) (here .v)) (a .node)
 
 clear-rec-point-at-requires : (t : ℕ) → clear-rec-lts.Need-point-at-requires (claims t) (clear-rec-at t) clear-rec.Post
-clear-rec-point-at-requires t c κs = let h = c .before .pre .1 in omega (arith, h .1, h .5)
+clear-rec-point-at-requires t c κs = let h = c .before .pre .1 in omega (arith, h .1 .0, h .2)
 
 clear-rec-point-at-requires-2 : (t : ℕ) → clear-rec-lts.Need-point-at-requires-2 (claims t) (clear-rec-at t) clear-rec.Post
-clear-rec-point-at-requires-2 t c κs = let h = c .before .before .before .pre .1 in omega (arith, h .0, h .1)
+clear-rec-point-at-requires-2 t c κs = let h = c .before .before .before .pre .1 in omega (arith, h .0, h .1 .0)
 
 clear-rec-coord-requires : (t : ℕ) → clear-rec-lts.Need-coord-requires (claims t) (clear-rec-at t) clear-rec.Post
 clear-rec-coord-requires t c κs = tt
@@ -157,19 +157,19 @@ clear-rec-next-axis-requires : (t : ℕ) → clear-rec-lts.Need-next-axis-requir
 clear-rec-next-axis-requires t c κs = tt
 
 clear-rec-mul-l : (t : ℕ) → clear-rec-lts.Need-mul-l (claims t) (clear-rec-at t) clear-rec.Post
-clear-rec-mul-l t c = let h = c .before .before .before .before .before .before .before .pre .1 in omega (arith, h .0, h .4)
+clear-rec-mul-l t c = let h = c .before .before .before .before .before .before .before .pre .1 in omega (arith, h .0, h .1 .3)
 
 clear-rec-index-1-l : (t : ℕ) → clear-rec-lts.Need-index-1-l (claims t) (clear-rec-at t) clear-rec.Post
-clear-rec-index-1-l t c = let h = c .before .before .before .before .before .before .before .pre .1 in omega (arith, h .0, h .2)
+clear-rec-index-1-l t c = let h = c .before .before .before .before .before .before .before .pre .1 in omega (arith, h .0, h .1 .1)
 
 clear-rec-mul-r : (t : ℕ) → clear-rec-lts.Need-mul-r (claims t) (clear-rec-at t) clear-rec.Post
-clear-rec-mul-r t c = let h = c .before .before .before .before .before .before .before .before .pre .1 in omega (arith, h .0, h .4)
+clear-rec-mul-r t c = let h = c .before .before .before .before .before .before .before .before .pre .1 in omega (arith, h .0, h .1 .3)
 
 clear-rec-index-1-r : (t : ℕ) → clear-rec-lts.Need-index-1-r (claims t) (clear-rec-at t) clear-rec.Post
-clear-rec-index-1-r t c = let h = c .before .before .before .before .before .before .before .before .pre .1 in omega (arith, h .0, h .3)
+clear-rec-index-1-r t c = let h = c .before .before .before .before .before .before .before .before .pre .1 in omega (arith, h .0, h .1 .2)
 
 clear-rec-meet-requires : (t : ℕ) → clear-rec-lts.Need-meet-requires (claims t) (clear-rec-at t) clear-rec.Post
-clear-rec-meet-requires t c κs = let h = c .before .before .before .before .before .before .before .before .before .before .pre .1 in omega (arith, h .0, h .4)
+clear-rec-meet-requires t c κs = let h = c .before .before .before .before .before .before .before .before .before .before .pre .1 in omega (arith, h .0, h .1 .3)
 
 clear-rec-either-requires : (t : ℕ) → clear-rec-lts.Need-either-requires (claims t) (clear-rec-at t) clear-rec.Post
 clear-rec-either-requires t c κs = tt
@@ -187,7 +187,7 @@ clear-rec-clear-rec-requires t c κs =
     let h = st t o .pre in
     let n = c .before .before .n in
     let i = links.link-to (a .m) (a .node) (o .before .either .result) (n .given .0 .0) (sym (n .given .1) ∙ o .link-of .ensures) in
-    (omega arith, (i .below, h .1 .1, h .1 .2, h .1 .3, h .1 .4, h .1 .5))
+    (omega arith, (i .below, h .1 .1, h .1 .2))
 
 clear-rec-goes-past-requires : (t : ℕ) → clear-rec-lts.Need-goes-past-requires (claims t) (clear-rec-at t) clear-rec.Post
 clear-rec-goes-past-requires t c κs = tt
@@ -209,7 +209,7 @@ clear-rec-clear-rec-requires-2 t c κs =
     let h = st t o .pre in
     let n = c .before .before .n2 in
     let i = links.link-to (a .m) (a .node) (q .before .either2 .result) (n .given .0 .0) (sym (n .given .1) ∙ q .link-of2 .ensures) in
-    (omega arith, (i .below, h .1 .1, h .1 .2, h .1 .3, h .1 .4, h .1 .5))
+    (omega arith, (i .below, h .1 .1, h .1 .2))
 
 clear-rec-returns : (t : ℕ) → clear-rec-lts.Need-returns (claims t) (clear-rec-at t) clear-rec.Post
 clear-rec-returns t c =

@@ -10,7 +10,7 @@ use Rattle.clearing.proofs.clear.Statement.{statement}
 use Rattle.clearing.proofs.clear.Tie as tie
 
 point-at-requires : tie.Need-point-at-requires
-point-at-requires c κs = let h = c .before .before .before .pre in omega (arith, h .0, h .1)
+point-at-requires c κs = let h = c .before .before .before .pre in omega (arith, h .0, h .1 .0)
 
 none-requires : tie.Need-none-requires
 none-requires c κs = tt
@@ -30,7 +30,7 @@ abbrev start : tie.After-places → tie.Start
 start c = tested c .before .before .before .before .before
 
 clear-rec-requires : tie.Need-clear-rec-requires
-clear-rec-requires c κs = let h = start c .pre in (omega (arith, h .0), h .1, h .2, h .3, h .4, h .0)
+clear-rec-requires c κs = let h = start c .pre in (omega (arith, h .0), h .1, h .0)
 
 -- from the root, as many links as there are places are enough
 returns-2 : tie.Need-returns-2

@@ -12,7 +12,7 @@ entry-at-requires : tie.Need-entry-at-requires
 entry-at-requires c κs = search needs
 
 meet-requires : tie.Need-meet-requires
-meet-requires c κs = let z = c .before .before .before in (met-within (z .args .m) _ _ (c .entry-at .ensures), z .pre .2)
+meet-requires c κs = let z = c .before .before .before in (met-within (z .args .m) _ _ (c .entry-at .ensures), z .pre .2 .0)
 
 enum-known-one : tie.Need-enum-known-one
 enum-known-one c = search needs
@@ -34,7 +34,7 @@ entry-at-requires-2 : tie.Need-entry-at-requires-2
 entry-at-requires-2 c κs = search needs
 
 meet-requires-2 : tie.Need-meet-requires-2
-meet-requires-2 c κs = let z = c .before .before .before .before .before .before .before .before in (met-within (z .args .m) _ _ (c .entry-at2 .ensures), z .pre .2)
+meet-requires-2 c κs = let z = c .before .before .before .before .before .before .before .before in (met-within (z .args .m) _ _ (c .entry-at2 .ensures), z .pre .2 .0)
 
 returns-2 : tie.Need-returns-2
 returns-2 c =

@@ -120,7 +120,7 @@ returns-4 c =
     let z = begin f in (
       third-is (z .args .m) (six z) (one f .fine) (two g .fine) true (three h .fine),
       more _ _ _ _ _ (c .add-closer-neighbor3 .ensures .0) (three h .is) (more _ _ _ _ _ (c .before .add-closer-neighbor2 .ensures .0) (two g .is)
-          (more _ _ _ _ _ (c .before .before .add-closer-neighbor .ensures .0) (one f .is) (ap (λ (x : Float). shareOf (z .args .nearest) x ∷ []) (z .pre .3)))),
+          (more _ _ _ _ _ (c .before .before .add-closer-neighbor .ensures .0) (one f .is) (ap (λ (x : Float). shareOf (z .args .nearest) x ∷ []) (z .pre .2)))),
       c .add-closer-neighbor3 .ensures .2 (z .args .m) (placed2 (c .before)) (held z 4 5 _ (three h)),
     )
 

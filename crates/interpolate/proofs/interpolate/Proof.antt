@@ -28,12 +28,12 @@ met c = subst (Here (begin c)) (c .before .gathered .given .1) (c .before .befor
 distance-requires : tie.Need-distance-requires
 distance-requires c κs =
     let s = c .before .before .before .before .before .before in
-    three-in (s .args .nearest) (s .args .m) (length (now (s .args .cartesian))) (s .pre .1) (s .pre .2)
+    three-in (s .args .nearest) (s .args .m) (length (now (s .args .cartesian))) (s .pre .1) (s .pre .2 .0)
 
 extract-filter-requires : tie.Need-extract-filter-requires
 extract-filter-requires c κs =
     let p = c .before .before .before .before .before .before .before .before .before .before .pre in
-    (p .0, p .1, p .4)
+    (p .0, p .1, p .3)
 
 same-length : tie.Need-same-length
 same-length c = c .before .before .before .before .extract-filter .kept .1 .1 .1 .1 .1 .1 .1 .0
@@ -55,7 +55,7 @@ returns c =
 gather-requires : tie.Need-gather-requires
 gather-requires c κs =
     let p = c .before .before .before .before .before .before .before .before .pre in
-    (p .1, p .2, p .3, c .before .distance .ensures)
+    (p .1, p .2, c .before .distance .ensures)
 
 enum-known-gathered : tie.Need-enum-known-gathered
 enum-known-gathered c = search needs
@@ -92,7 +92,7 @@ total-requires c κs = (met c .2 .one, met c .2 .four)
 extract-filter-requires-2 : tie.Need-extract-filter-requires-2
 extract-filter-requires-2 c κs =
     let p = begin (c .before .before .before .before) .pre in
-    (p .0, p .1, p .4)
+    (p .0, p .1, p .3)
 
 same-length-5 : tie.Need-same-length-5
 same-length-5 c = c .before .before .before .before .extract-filter2 .kept .1 .1 .1 .1 .1 .1 .1 .0
@@ -123,7 +123,7 @@ blend-requires : tie.Need-blend-requires
 blend-requires c κs =
     let g = c .before .before .before .before .before in
     let z = begin g in
-    (z .pre .0, c .before .before .divided .ensures .1 (z .args .m) (met g .2), z .pre .4)
+    (z .pre .0, c .before .before .divided .ensures .1 (z .args .m) (met g .2), z .pre .3)
 
 same-length-7 : tie.Need-same-length-7
 same-length-7 c = c .before .before .before .before .blend .kept .1 .1 .1 .1 .1 .1 .1 .0

@@ -72,7 +72,7 @@ insert-rec-insert-rec-requires t c κs =
     let a = o .before .before .before .before .before .before .before .before .before .before .args in
     let h = o .before .before .before .before .before .before .before .before .before .before .pre in
     let i = step.link-to (a .count) (a .node) (o .before .either .result) (c .before .n .given .0 .0) (sym (c .before .n .given .1) ∙ o .link-of .ensures) in
-    (omega arith, (i .below, h .1 .1, h .1 .2, h .1 .3))
+    (omega arith, (i .below, h .1 .1))
 
 insert-rec-returns : (t : ℕ) → insert-rec-lts.Need-returns (claims t) (insert-rec-at t) insert-rec.Post
 insert-rec-returns t c =

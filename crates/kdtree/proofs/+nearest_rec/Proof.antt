@@ -9,7 +9,7 @@ use Rattle.points.specs.Points.{pointAt}
 use Rattle.kdtree.specs.declared.Best.{Best}
 use Rattle.kdtree.specs.declared.Searched.{Searched}
 use Rattle.kdtree.specs.declared.Searched.the-variants.{Found}
-use Rattle.kdtree.proofs.Whole.{both}
+use Rattle.kdtree.proofs.Whole.{both, not-true, not-false}
 use Rattle.kdtree.proofs.Step as step
 use borrow.Fn.Kinds.{In}
 use borrow.Fn.PlainCycle.{Measures, is, falls, and}
@@ -108,7 +108,7 @@ from t c = met t c .before .before .before .before
 
 module _ (t : ℕ) (c : Place2 t) where
   abbrev best : Best
-  best = c .before .before .met .given .0 .0
+  best = c .before .before .b .given .0 .0
 
   abbrev There : Type 0
   There =
@@ -131,7 +131,7 @@ module _ (t : ℕ) (c : Place2 t) where
       let o = from t c in
       let a = st t o .args in
       let d = o .before .before .before .before .before .before .before .before .dist-at in
-      step.went-on (now (now (a .left))) (now (now (a .right))) (now (now (a .xs))) (a .m) (pointAt (now (a .q)) 0) (a .node) (a .rect) (a .axis) (a .best) (here t o) (m .before .match2 .after) (d .result) (m .then-node2 .result) (came t (m .before)) (d .ensures) (m .then-node2 .ensures) best r (c .before .before .met .given .1) f
+      step.went-on (now (now (a .left))) (now (now (a .right))) (now (now (a .xs))) (a .m) (pointAt (now (a .q)) 0) (a .node) (a .rect) (a .axis) (a .best) (here t o) (m .before .match2 .after) (d .result) (m .then-node2 .result) (came t (m .before)) (d .ensures) (m .then-node2 .ensures) best r (c .before .before .b .given .1) f
 
 nearest-rec-cast-if1 : (t : ℕ) → nearest-rec-lts.Need-cast-if1 (claims t) (nearest-rec-at t) nearest-rec′.Post
 nearest-rec-cast-if1 t c = search needs
@@ -196,8 +196,8 @@ nearest-rec-either-requires-2 t c κs = search needs
 nearest-rec-link-of-requires : (t : ℕ) → nearest-rec-lts.Need-link-of-requires (claims t) (nearest-rec-at t) nearest-rec′.Post
 nearest-rec-link-of-requires t c κs = search needs
 
-nearest-rec-enum-known-only-side : (t : ℕ) → nearest-rec-lts.Need-enum-known-only-side (claims t) (nearest-rec-at t) nearest-rec′.Post
-nearest-rec-enum-known-only-side t c = search needs
+nearest-rec-enum-known-n : (t : ℕ) → nearest-rec-lts.Need-enum-known-n (claims t) (nearest-rec-at t) nearest-rec′.Post
+nearest-rec-enum-known-n t c = search needs
 
 nearest-rec-returns-3 : (t : ℕ) → nearest-rec-lts.Need-returns-3 (claims t) (nearest-rec-at t) nearest-rec′.Post
 nearest-rec-returns-3 t c =
@@ -215,10 +215,10 @@ nearest-rec-nearest-rec-requires t c κs =
     let k = c .before .before .before .before in
     let o = k .before .before in
     let a = st t o .args in
-    let m = c .before .before .only-side in
+    let m = c .before .before .n in
     let i = step.link-to (a .m) (a .node) (o .before .either .result) (m .given .0 .0) (sym (m .given .1) ∙ k .link-of .ensures) in
     let h = st t o .pre in
-    (omega arith, (i .below, h .1 .1, h .1 .2, h .1 .3, h .1 .4, step.next-below (a .axis) (here t o .nx) (here t o .en)))
+    (omega arith, (i .below, h .1 .1, step.next-below (a .axis) (here t o .nx) (here t o .en)))
 
 nearest-rec-cast-then-node : (t : ℕ) → nearest-rec-lts.Need-cast-then-node (claims t) (nearest-rec-at t) nearest-rec′.Post
 nearest-rec-cast-then-node t c =
@@ -234,7 +234,7 @@ nearest-rec-returns-4 t c =
     let k = z .before .before .before .before .before in
     let o = k .before .before in
     let a = st t o .args in
-    let m = z .before .before .before .only-side in
+    let m = z .before .before .before .n in
     let s = o .before .before .before .before .before .before .before .visited in
     let d = o .before .before .before .before .before .before .before .before .dist-at in
     let near = step.near-to (now (now (a .left))) (now (now (a .right))) (now (now (a .xs))) (a .m) (pointAt (now (a .q)) 0) (a .node) (a .rect) (a .axis) (a .best) (here t o) (o .before .either .result) (m .given .0 .0) (k .link-of .result) (s .result) (z .before .nearer-box .result) (z .nearest-rec .result) (o .before .either .ensures) (k .link-of .ensures) (m .given .1) (s .ensures) (z .before .nearer-box .ensures) (z .nearest-rec .ensures) in
@@ -246,8 +246,8 @@ nearest-rec-link-of-requires-2 t c κs = search needs
 nearest-rec-enum-told : (t : ℕ) → nearest-rec-lts.Need-enum-told (claims t) (nearest-rec-at t) nearest-rec′.Post
 nearest-rec-enum-told t c = search needs
 
-nearest-rec-enum-known-n : (t : ℕ) → nearest-rec-lts.Need-enum-known-n (claims t) (nearest-rec-at t) nearest-rec′.Post
-nearest-rec-enum-known-n t c = search needs
+nearest-rec-enum-known-n-2 : (t : ℕ) → nearest-rec-lts.Need-enum-known-n-2 (claims t) (nearest-rec-at t) nearest-rec′.Post
+nearest-rec-enum-known-n-2 t c = search needs
 
 nearest-rec-nearer-box-requires-2 : (t : ℕ) → nearest-rec-lts.Need-nearer-box-requires-2 (claims t) (nearest-rec-at t) nearest-rec′.Post
 nearest-rec-nearer-box-requires-2 t c κs = search needs
@@ -257,10 +257,10 @@ nearest-rec-nearest-rec-requires-2 t c κs =
     let k = c .before .before .before .before in
     let o = k .before .before in
     let a = st t o .args in
-    let m = c .before .before .n in
+    let m = c .before .before .n2 in
     let i = step.link-to (a .m) (a .node) (o .before .either .result) (m .given .0 .0) (sym (m .given .1) ∙ k .link-of2 .ensures) in
     let h = st t o .pre in
-    (omega arith, (i .below, h .1 .1, h .1 .2, h .1 .3, h .1 .4, step.next-below (a .axis) (here t o .nx) (here t o .en)))
+    (omega arith, (i .below, h .1 .1, step.next-below (a .axis) (here t o .nx) (here t o .en)))
 
 nearest-rec-enum-told-2 : (t : ℕ) → nearest-rec-lts.Need-enum-told-2 (claims t) (nearest-rec-at t) nearest-rec′.Post
 nearest-rec-enum-told-2 t c = search needs
@@ -273,8 +273,8 @@ nearest-rec-cast-then-node-2 t c =
 nearest-rec-then-node-requires-2 : (t : ℕ) → nearest-rec-lts.Need-then-node-requires-2 (claims t) (nearest-rec-at t) nearest-rec′.Post
 nearest-rec-then-node-requires-2 t c κs = search needs
 
-nearest-rec-enum-known-met : (t : ℕ) → nearest-rec-lts.Need-enum-known-met (claims t) (nearest-rec-at t) nearest-rec′.Post
-nearest-rec-enum-known-met t c = search needs
+nearest-rec-enum-known-b : (t : ℕ) → nearest-rec-lts.Need-enum-known-b (claims t) (nearest-rec-at t) nearest-rec′.Post
+nearest-rec-enum-known-b t c = search needs
 
 nearest-rec-enum-told-3 : (t : ℕ) → nearest-rec-lts.Need-enum-told-3 (claims t) (nearest-rec-at t) nearest-rec′.Post
 nearest-rec-enum-told-3 t c = search needs
@@ -290,33 +290,27 @@ nearest-rec-returns-5 t c =
 nearest-rec-link-of-requires-3 : (t : ℕ) → nearest-rec-lts.Need-link-of-requires-3 (claims t) (nearest-rec-at t) nearest-rec′.Post
 nearest-rec-link-of-requires-3 t c κs = search needs
 
-nearest-rec-enum-told-4 : (t : ℕ) → nearest-rec-lts.Need-enum-told-4 (claims t) (nearest-rec-at t) nearest-rec′.Post
-nearest-rec-enum-told-4 t c = search needs
+nearest-rec-enum-known-n-3 : (t : ℕ) → nearest-rec-lts.Need-enum-known-n-3 (claims t) (nearest-rec-at t) nearest-rec′.Post
+nearest-rec-enum-known-n-3 t c = search needs
 
 nearest-rec-returns-6 : (t : ℕ) → nearest-rec-lts.Need-returns-6 (claims t) (nearest-rec-at t) nearest-rec′.Post
 nearest-rec-returns-6 t c =
-    let k = c .before .before in
+    let k = c .before in
     let o = from t k in
     let a = st t o .args in
-    ends t k _ (step.far-gone (now (now (a .left))) (now (now (a .right))) (now (now (a .xs))) (a .m) (pointAt (now (a .q)) 0) (a .node) (a .rect) (a .axis) (a .best) (here t o) (best t k) (there t k) (c .enum-told4 .given .1))
-
-nearest-rec-enum-told-5 : (t : ℕ) → nearest-rec-lts.Need-enum-told-5 (claims t) (nearest-rec-at t) nearest-rec′.Post
-nearest-rec-enum-told-5 t c = search needs
-
-nearest-rec-returns-7 : (t : ℕ) → nearest-rec-lts.Need-returns-7 (claims t) (nearest-rec-at t) nearest-rec′.Post
-nearest-rec-returns-7 t c =
-    let k = c .before .before in
-    let o = from t k in
-    let a = st t o .args in
-    ends t k _ (step.far-bad (now (now (a .left))) (now (now (a .right))) (now (now (a .xs))) (a .m) (pointAt (now (a .q)) 0) (a .node) (a .rect) (a .axis) (a .best) (here t o) (best t k) (there t k) (c .enum-told5 .given .1))
-
-nearest-rec-enum-known-n-2 : (t : ℕ) → nearest-rec-lts.Need-enum-known-n-2 (claims t) (nearest-rec-at t) nearest-rec′.Post
-nearest-rec-enum-known-n-2 t c = search needs
+    ends t k _ (step.far-nowhere (now (now (a .left))) (now (now (a .right))) (now (now (a .xs))) (a .m) (pointAt (now (a .q)) 0) (a .node) (a .rect) (a .axis) (a .best) (here t o) (best t k) (there t k) (met t k .before .before .before .if3 .left) (c .match4 .keys2))
 
 nearest-rec-far-is-nearer-requires : (t : ℕ) → nearest-rec-lts.Need-far-is-nearer-requires (claims t) (nearest-rec-at t) nearest-rec′.Post
 nearest-rec-far-is-nearer-requires t c κs =
     let o = from t (c .before .before .before) in
-    (st t o .pre .1 .5, step.side-first _ _ _ _ (o .before .before .before .before .query-coord .ensures) (o .before .before .before .left-first .ensures))
+    (st t o .pre .1 .2, step.side-first _ _ _ _ (o .before .before .before .before .query-coord .ensures) (o .before .before .before .left-first .ensures))
+
+nearest-rec-returns-7 : (t : ℕ) → nearest-rec-lts.Need-returns-7 (claims t) (nearest-rec-at t) nearest-rec′.Post
+nearest-rec-returns-7 t c =
+    let k = c .before .before .before .before .before in
+    let o = from t k in
+    let a = st t o .args in
+    ends t k _ (step.far-out (now (now (a .left))) (now (now (a .right))) (now (now (a .xs))) (a .m) (pointAt (now (a .q)) 0) (a .node) (a .rect) (a .axis) (a .best) (here t o) (best t k) (there t k) (c .before .before .before .n3 .given .0 .0) (c .before .far-is-nearer .result) (c .before .before .before .n3 .given .1) (c .before .far-is-nearer .ensures) (not-true _ (c .if4 .taken)))
 
 nearest-rec-farther-box-requires : (t : ℕ) → nearest-rec-lts.Need-farther-box-requires (claims t) (nearest-rec-at t) nearest-rec′.Post
 nearest-rec-farther-box-requires t c κs = search needs
@@ -326,24 +320,17 @@ nearest-rec-nearest-rec-requires-3 t c κs =
     let k = c .before .before .before .before .before .before in
     let o = from t k in
     let a = st t o .args in
-    let m = c .before .before .before .before .n2 in
+    let m = c .before .before .before .before .n3 in
     let i = step.link-to (a .m) (a .node) (o .either2 .result) (m .given .0 .0) (sym (m .given .1) ∙ k .link-of3 .ensures) in
     let h = st t o .pre in
-    (omega arith, (i .below, h .1 .1, h .1 .2, h .1 .3, h .1 .4, step.next-below (a .axis) (here t o .nx) (here t o .en)))
+    (omega arith, (i .below, h .1 .1, step.next-below (a .axis) (here t o .nx) (here t o .en)))
 
 nearest-rec-returns-8 : (t : ℕ) → nearest-rec-lts.Need-returns-8 (claims t) (nearest-rec-at t) nearest-rec′.Post
 nearest-rec-returns-8 t c =
     let k = c .before .before .before .before .before .before .before in
     let o = from t k in
     let a = st t o .args in
-    ends t k _ (step.far-in (now (now (a .left))) (now (now (a .right))) (now (now (a .xs))) (a .m) (pointAt (now (a .q)) 0) (a .node) (a .rect) (a .axis) (a .best) (here t o) (best t k) (there t k) (c .before .before .before .before .before .n2 .given .0 .0) (c .before .farther-box .result) (c .before .before .before .far-is-nearer .result) (c .nearest-rec3 .result) (c .before .before .before .before .before .n2 .given .1) (c .before .farther-box .ensures) (c .before .before .before .far-is-nearer .ensures) (c .before .before .if4 .taken) (c .nearest-rec3 .ensures))
-
-nearest-rec-returns-9 : (t : ℕ) → nearest-rec-lts.Need-returns-9 (claims t) (nearest-rec-at t) nearest-rec′.Post
-nearest-rec-returns-9 t c =
-    let k = c .before .before .before .before .before in
-    let o = from t k in
-    let a = st t o .args in
-    ends t k _ (step.far-out (now (now (a .left))) (now (now (a .right))) (now (now (a .xs))) (a .m) (pointAt (now (a .q)) 0) (a .node) (a .rect) (a .axis) (a .best) (here t o) (best t k) (there t k) (c .before .before .before .n2 .given .0 .0) (c .before .far-is-nearer .result) (c .before .before .before .n2 .given .1) (c .before .far-is-nearer .ensures) (c .if4 .left))
+    ends t k _ (step.far-in (now (now (a .left))) (now (now (a .right))) (now (now (a .xs))) (a .m) (pointAt (now (a .q)) 0) (a .node) (a .rect) (a .axis) (a .best) (here t o) (best t k) (there t k) (c .before .before .before .before .before .n3 .given .0 .0) (c .before .farther-box .result) (c .before .before .before .far-is-nearer .result) (c .nearest-rec3 .result) (c .before .before .before .before .before .n3 .given .1) (c .before .farther-box .ensures) (c .before .before .before .far-is-nearer .ensures) (not-false _ (c .before .before .if4 .left)) (c .nearest-rec3 .ensures))
 
 pub +nearest-rec-spec : {M : Type 1} → statement M
 +nearest-rec-spec = close μ-nearest-rec λ t. nearest-rec-lts.spec (claims t)
@@ -367,7 +354,7 @@ pub +nearest-rec-spec : {M : Type 1} → statement M
     (nearest-rec-either-requires t)
     (nearest-rec-either-requires-2 t)
     (nearest-rec-link-of-requires t)
-    (nearest-rec-enum-known-only-side t)
+    (nearest-rec-enum-known-n t)
     (nearest-rec-returns-3 t)
     (nearest-rec-nearer-box-requires t)
     (nearest-rec-nearest-rec-requires t)
@@ -376,23 +363,20 @@ pub +nearest-rec-spec : {M : Type 1} → statement M
     (nearest-rec-returns-4 t)
     (nearest-rec-link-of-requires-2 t)
     (nearest-rec-enum-told t)
-    (nearest-rec-enum-known-n t)
+    (nearest-rec-enum-known-n-2 t)
     (nearest-rec-nearer-box-requires-2 t)
     (nearest-rec-nearest-rec-requires-2 t)
     (nearest-rec-enum-told-2 t)
     (nearest-rec-cast-then-node-2 t)
     (nearest-rec-then-node-requires-2 t)
-    (nearest-rec-enum-known-met t)
+    (nearest-rec-enum-known-b t)
     (nearest-rec-enum-told-3 t)
     (nearest-rec-returns-5 t)
     (nearest-rec-link-of-requires-3 t)
-    (nearest-rec-enum-told-4 t)
+    (nearest-rec-enum-known-n-3 t)
     (nearest-rec-returns-6 t)
-    (nearest-rec-enum-told-5 t)
-    (nearest-rec-returns-7 t)
-    (nearest-rec-enum-known-n-2 t)
     (nearest-rec-far-is-nearer-requires t)
+    (nearest-rec-returns-7 t)
     (nearest-rec-farther-box-requires t)
     (nearest-rec-nearest-rec-requires-3 t)
     (nearest-rec-returns-8 t)
-    (nearest-rec-returns-9 t)

@@ -59,7 +59,8 @@ insert-rec-requires c κs =
     let p = h .positions in
     let l = h .left in
     let r = h .right in
-    (omega arith, omega arith, omega arith, omega arith)
+    let m = h .most in
+    (omega arith, (omega arith, omega arith, omega arith, omega arith))
 
 enum-known-o : tie.Need-enum-known-o
 enum-known-o c = search needs

@@ -39,7 +39,7 @@ nearest-place-requires : tie.Need-nearest-place-requires
 nearest-place-requires c κs =
     let h = long (c .before) in
     let n = c .if2 .left in
-    (omega arith, h .positions, h .left, h .right, h .most)
+    (omega arith, (h .positions, h .left, h .right, h .most))
 
 enum-known-searched : tie.Need-enum-known-searched
 enum-known-searched c = search needs

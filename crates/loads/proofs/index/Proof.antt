@@ -19,8 +19,8 @@ fill-neighbors-requires c κs =
     let h = z .pre in
     let n = c .before .before .before .before .before .before .before .new in
     let k = n .kept in
-    let room : Room (now (a .cartesian)) (a .m) (linksOf (now (a .left)) (now (a .right))) = record { some = h .0; most = h .1; positions = h .2; left = h .3; right = h .4 } in
-    (h .2, omega (arith, k .1 .1 .0, h .3), omega (arith, k .1 .1 .1 .0, h .4), h .1, h .5, built-by (n .result) (a .m) (now (a .cartesian)) _ _ (now (a .left)) (now (a .right)) room (n .ensures))
+    let room : Room (now (a .cartesian)) (a .m) (linksOf (now (a .left)) (now (a .right))) = record { some = h .0; most = h .1 .3; positions = h .1 .0; left = h .1 .1; right = h .1 .2 } in
+    ((h .1 .0, omega (arith, k .1 .1 .0, h .1 .1), omega (arith, k .1 .1 .1 .0, h .1 .2), h .1 .3), h .2, built-by (n .result) (a .m) (now (a .cartesian)) _ _ (now (a .left)) (now (a .right)) room (n .ensures))
 
 same-length : tie.Need-same-length
 same-length c = search needs
@@ -35,7 +35,7 @@ returns : tie.Need-returns
 returns c =
     let a = c .before .before .before .before .before .before .before .before .before .before .before .before .before .before .before .before .before .args in
     let h = c .before .before .before .before .before .before .before .before .before .before .before .before .before .before .before .before .before .pre in
-    is-indexed (a .m) (a .angle-step) (a .radius-step) (now (a .left)) (now (a .right)) (now (a .neighbours)) (now (a .cartesian)) (record { some = h .0; most = h .1; positions = h .2; left = h .3; right = h .4 }) (h .5) (c .before .before .before .before .before .before .before .before .before .before .new .result) _ _ _ (c .before .before .fill-neighbors .result) (c .before .before .before .before .before .before .before .before .before .before .new .ensures) (c .before .before .fill-neighbors .ensures)
+    is-indexed (a .m) (a .angle-step) (a .radius-step) (now (a .left)) (now (a .right)) (now (a .neighbours)) (now (a .cartesian)) (record { some = h .0; most = h .1 .3; positions = h .1 .0; left = h .1 .1; right = h .1 .2 }) (h .2) (c .before .before .before .before .before .before .before .before .before .before .new .result) _ _ _ (c .before .before .fill-neighbors .result) (c .before .before .before .before .before .before .before .before .before .before .new .ensures) (c .before .before .fill-neighbors .ensures)
 
 pub index-spec : {M : Type 1} → statement M
 index-spec =

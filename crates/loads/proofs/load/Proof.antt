@@ -49,13 +49,13 @@ slice-aggregate-place : tie.Need-slice-aggregate-place
 slice-aggregate-place c =
     let a = c .before .before .before .before .before .before .before .before .before .before .args in
     let j = c .before .before .before .judge-load in
-    sym (length-take-le (3 * a .sizes .m) (now (a .cartesian)) (room (a .kind) (a .sizes) (now (a .positions)) (length (now (a .responses))) (a .angle-step) (a .radius-step) (a .rate) (workOf (now (a .left)) (now (a .right)) (now (a .neighbours)) (now (a .cartesian))) (j .result) (j .ensures) (c .before .enum-told .given .1) .2))
+    sym (length-take-le (3 * a .sizes .m) (now (a .cartesian)) (room (a .kind) (a .sizes) (now (a .positions)) (length (now (a .responses))) (a .angle-step) (a .radius-step) (a .rate) (workOf (now (a .left)) (now (a .right)) (now (a .neighbours)) (now (a .cartesian))) (j .result) (j .ensures) (c .before .enum-told .given .1) .1 .0))
 
 place-requires-2 : tie.Need-place-requires-2
 place-requires-2 c κs =
     let a = c .before .before .before .before .before .before .before .before .before .before .args in
     let j = c .before .before .before .judge-load in
-    exact (a .kind) (a .sizes) (now (a .positions)) (length (now (a .responses))) (a .angle-step) (a .radius-step) (a .rate) (workOf (now (a .left)) (now (a .right)) (now (a .neighbours)) (now (a .cartesian))) (j .result) (j .ensures) (c .before .enum-told .given .1) ∙ sym (length-take-le (3 * a .sizes .m) (now (a .cartesian)) (room (a .kind) (a .sizes) (now (a .positions)) (length (now (a .responses))) (a .angle-step) (a .radius-step) (a .rate) (workOf (now (a .left)) (now (a .right)) (now (a .neighbours)) (now (a .cartesian))) (j .result) (j .ensures) (c .before .enum-told .given .1) .2))
+    exact (a .kind) (a .sizes) (now (a .positions)) (length (now (a .responses))) (a .angle-step) (a .radius-step) (a .rate) (workOf (now (a .left)) (now (a .right)) (now (a .neighbours)) (now (a .cartesian))) (j .result) (j .ensures) (c .before .enum-told .given .1) ∙ sym (length-take-le (3 * a .sizes .m) (now (a .cartesian)) (room (a .kind) (a .sizes) (now (a .positions)) (length (now (a .responses))) (a .angle-step) (a .radius-step) (a .rate) (workOf (now (a .left)) (now (a .right)) (now (a .neighbours)) (now (a .cartesian))) (j .result) (j .ensures) (c .before .enum-told .given .1) .1 .0))
 
 index-requires : tie.Need-index-requires
 index-requires c κs =
@@ -64,7 +64,7 @@ index-requires c κs =
     let p = c .before .before .before .before .before .before .place2 in
     let l = ap length (p .ensures) ∙ as-long (a .kind) (now (a .positions)) ∙ exact (a .kind) (a .sizes) (now (a .positions)) (length (now (a .responses))) (a .angle-step) (a .radius-step) (a .rate) (workOf (now (a .left)) (now (a .right)) (now (a .neighbours)) (now (a .cartesian))) (j .result) (j .ensures) (c .before .before .before .before .before .before .before .before .enum-told .given .1) in
     let h = room (a .kind) (a .sizes) (now (a .positions)) (length (now (a .responses))) (a .angle-step) (a .radius-step) (a .rate) (workOf (now (a .left)) (now (a .right)) (now (a .neighbours)) (now (a .cartesian))) (j .result) (j .ensures) (c .before .before .before .before .before .before .before .before .enum-told .given .1) in
-    (h .0, h .1, front-fits (3 * a .sizes .m) (p .last .1 .1 .0) (now (a .cartesian)) l, h .3, h .4, h .5)
+    (h .0, (front-fits (3 * a .sizes .m) (p .last .1 .1 .0) (now (a .cartesian)) l, h .1 .1, h .1 .2, h .1 .3), h .2)
 
 same-length : tie.Need-same-length
 same-length c = search needs

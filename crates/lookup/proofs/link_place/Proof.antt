@@ -12,7 +12,7 @@ point-at-requires : tie.Need-point-at-requires
 point-at-requires c κs = omega arith
 
 insert-rec-requires : tie.Need-insert-rec-requires
-insert-rec-requires c κs = let h = c .before .before .before .before .before .before .pre in (h .0, omega arith, omega arith, omega arith)
+insert-rec-requires c κs = let h = c .before .before .before .before .before .before .pre in (h .0, (omega arith, omega arith, omega arith, omega arith))
 
 enum-known-o : tie.Need-enum-known-o
 enum-known-o c = search needs

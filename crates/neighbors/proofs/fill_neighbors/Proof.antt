@@ -25,7 +25,7 @@ loop-holds c =
     (omega arith, refl, ap (λ (j : ℕ). writing (tableEntry (a .look) (a .m) (now (a .cartesian)) (now (a .left)) (now (a .right)) (a .angle-step) (a .radius-step)) j 0 (now (a .neighbours))) e)
 
 clear-requires : tie.Need-clear-requires Inv-loop μ-loop
-clear-requires c κs = let h = c .before .before .before .before .before .before .before .pre in (c .loop-test .taken, h .0, h .1, h .2, h .3)
+clear-requires c κs = let h = c .before .before .before .before .before .before .before .pre in (c .loop-test .taken, h .0)
 
 reach-after-requires : tie.Need-reach-after-requires Inv-loop μ-loop
 reach-after-requires c κs = search needs
@@ -37,7 +37,10 @@ find-neighbors-requires c κs =
     let i = o .before .loop .i in
     let w = o .before .loop .reach in
     let a = o .before .before .before .before .before .before .before .args in
-    let h = c .before .before .before .before .before .before .before .before .before .before .pre in let l = c .before .before .before .before .loop .inv .1 in let g = h .4 in (omega arith, h .0, h .1, h .2, h .3, omega (arith, l, g), surrounds (a .look) (a .m) (now (a .cartesian)) (now (a .left)) (now (a .right)) (h .5) i t w _ _ (c .before .before .clear .ensures))
+    let h = c .before .before .before .before .before .before .before .before .before .before .pre in
+    let l = c .before .before .before .before .loop .inv .1 in
+    let g = h .1 in
+    (omega arith, h .0, omega (arith, l, g), surrounds (a .look) (a .m) (now (a .cartesian)) (now (a .left)) (now (a .right)) (h .2) i t w _ _ (c .before .before .clear .ensures))
 
 enum-told : tie.Need-enum-told Inv-loop μ-loop
 enum-told c = search needs

@@ -43,7 +43,7 @@ max-steps-requires c κs = search needs
 search-direction-requires : tie.Need-search-direction-requires Inv-loop μ-loop
 search-direction-requires c κs =
     let h = c .before .before .before .before .before .before .before .before .before .before .pre in
-    (h .0, h .1, h .2, h .3, h .4, h .6)
+    (h .0, h .1, h .3)
 
 -- what the search answers is the entry at its place
 is-entry : (c : tie.After-search-direction Inv-loop μ-loop) → (let l = c .before .before .before .before in
@@ -88,26 +88,26 @@ mul-neighbours : tie.Need-mul-neighbours Inv-loop μ-loop
 mul-neighbours c =
     let h = c .before .before .before .before .before .before .before .before .before .before .before .before .pre in
     let t = c .before .before .before .before .loop-test .taken in
-    omega (arith, t, h .0, h .4)
+    omega (arith, t, h .0, h .1 .3)
 
 add-neighbours : tie.Need-add-neighbours Inv-loop μ-loop
 add-neighbours c =
     let h = c .before .before .before .before .before .before .before .before .before .before .before .before .pre in
     let t = c .before .before .before .before .loop-test .taken in
-    omega (arith, t, h .0, h .4)
+    omega (arith, t, h .0, h .1 .3)
 
 mul-neighbours-2 : tie.Need-mul-neighbours-2 Inv-loop μ-loop
 mul-neighbours-2 c =
     let h = c .before .before .before .before .before .before .before .before .before .before .before .before .pre in
     let t = c .before .before .before .before .loop-test .taken in
-    omega (arith, t, h .0, h .4)
+    omega (arith, t, h .0, h .1 .3)
 
 slice-write-neighbours : tie.Need-slice-write-neighbours Inv-loop μ-loop
 slice-write-neighbours c =
     let h = c .before .before .before .before .before .before .before .before .before .before .before .before .pre in
     let t = c .before .before .before .before .loop-test .taken in
     let g = c .before .before .before .before .before .loop .inv .1 in
-    omega (arith, t, g, h .0, h .5)
+    omega (arith, t, g, h .0, h .2)
 
 add-d : tie.Need-add-d Inv-loop μ-loop
 add-d c = let t = c .before .before .before .before .loop-test .taken in omega (arith, t)

@@ -26,7 +26,7 @@ below c =
     subst (λ (s : Nearest). s .place < a .m) (sym (c .nearest-in .ensures)) (nearest-below (now (a .cartesian)) (a .m) (c .before .normalize-radius .result) (a .own) (a .around) (z .pre .0))
 
 point-at-requires : tie.Need-point-at-requires
-point-at-requires c κs = let b = below c in let h = c .before .before .before .before .before .pre .1 in omega (arith, b, h)
+point-at-requires c κs = let b = below c in let h = c .before .before .before .before .before .pre .1 .0 in omega (arith, b, h)
 
 point-at-requires-2 : tie.Need-point-at-requires-2
 point-at-requires-2 c κs = search needs
@@ -38,7 +38,7 @@ cast-t18 : tie.Need-cast-t18
 cast-t18 c =
     let o = c .before .before .before .before .before in
     let b = below o in
-    let h = o .before .before .before .before .before .pre .4 in
+    let h = o .before .before .before .before .before .pre .1 .3 in
     omega (arith, b, h)
 
 returns : tie.Need-returns
@@ -46,7 +46,7 @@ returns c =
     let o = c .before .before .before .before .before in
     let z = o .before .before .before .before .before in
     let a = z .args in
-    found-by (a .look) (a .m) (now (a .cartesian)) (now (a .left)) (now (a .right)) (a .own) (a .around) (z .pre .5) (a .q) (o .before .normalize-radius .result) (o .before .normalize-radius .ensures)
+    found-by (a .look) (a .m) (now (a .cartesian)) (now (a .left)) (now (a .right)) (a .own) (a .around) (z .pre .2) (a .q) (o .before .normalize-radius .result) (o .before .normalize-radius .ensures)
     (o .nearest-in .result) (o .nearest-in .ensures) _ _ (c .before .before .before .before .point-at .ensures) (c .before .before .before .point-at2 .ensures) _ (c .before .alone .ensures) (c .if1 .taken)
 
 nearest-requires : tie.Need-nearest-requires

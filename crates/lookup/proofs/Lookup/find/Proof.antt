@@ -19,7 +19,7 @@ locate-requires c κs =
     let a = c .before .before .before .before .before .before .args in
     let h = find-passed (a .sizes) (treeLengths (now (a .cartesian)) (now (a .left)) (now (a .right))) (a .coordinate) (sym (c .before .before .judge-find .ensures) ∙ c .enum-told .given .1) in
     let r = h .room in
-    (h .sizes .some, r .cartesian, r .left, r .right, h .sizes .most)
+    (h .sizes .some, (r .cartesian, r .left, r .right, h .sizes .most))
 
 enum-known-number : tie.Need-enum-known-number
 enum-known-number c = search needs

@@ -7,7 +7,7 @@ link-all-requires : tie.Need-link-all-requires
 link-all-requires c κs = c .before .before .before .before .before .pre
 
 measured-requires : tie.Need-measured-requires
-measured-requires c κs = let h = c .before .before .before .before .before .before .before .before .before .before .pre in (h .0, h .1, h .2)
+measured-requires c κs = let h = c .before .before .before .before .before .before .before .before .before .before .pre in (h .0, h .1 .3, h .1 .0)
 
 same-length : tie.Need-same-length
 same-length c = c .before .before .before .before .before .link-all .kept .1 .0
