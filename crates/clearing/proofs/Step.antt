@@ -2,28 +2,21 @@
 -- definition then says. Assumes nothing.
 use mathlib.Core.Path.{_≡_, refl, sym, ap, _∙_}
 use mathlib.Core.Bool.{Bool, true, false, cond}
-use mathlib.Core.List.{List, [], _∷_}
+use mathlib.Core.List.{List}
 use mathlib.Core.Logic.{⊎-elim}
 use Prim.Native.Nat.{ℕ, zero, suc, _-_, _<_, _≤_}
 use native.Mathlib.Omega.{arith}
 use lib.ListN.{getD}
 use lib.Ieee.{Float, lt}
-use types.Run.{OneOf}
-use denote.Enum.Declared.{tagOf}
 use Rattle.points.specs.declared.Point3.{Point3}
 use Rattle.points.specs.Points.{pointAt}
 use Rattle.clearing.specs.declared.Clearing.{Clearing}
 use Rattle.kdtree.specs.declared.Link.{Link}
 use Rattle.kdtree.specs.declared.Link.the-variants.{Gone, To, Bad}
-use Rattle.kdtree.proofs.Link.{the-type}
 use Rattle.kdtree.specs.Geometry.{coordOf, nextAxis}
 use Rattle.kdtree.specs.Tree.{Tree, linkOf, sideOf, subtree}
 use Rattle.kdtree.proofs.Step as links
 use Rattle.clearing.specs.Clearing.{met, reaches, cleared}
-
--- a link that leads nowhere, which the code's `_` knows by the two tags
-abbrev pub Nowhere : Link → Type 0
-Nowhere lk = OneOf (0 ∷ 2 ∷ []) (tagOf the-type lk)
 
 module _ (left right : List ℕ) (xs : List Float) (m own : ℕ) (p : Point3) where
   abbrev T : ℕ → ℕ → Tree
@@ -47,7 +40,7 @@ module _ (left right : List ℕ) (xs : List Float) (m own : ℕ) (p : Point3) wh
   abbrev pub Side : ℕ → ℕ → ℕ → Clearing → Clearing → Type 0
   Side n l axis b r = (k : ℕ) → m - suc n ≤ k → r ≡ cleared own p (side k n l) axis b
 
-  passed-over : (lk : Link) → Nowhere lk → (t : Tree) (axis : ℕ) (b : Clearing) → b ≡ cleared own p (sideOf lk t) axis b
+  passed-over : (lk : Link) → links.Nowhere lk → (t : Tree) (axis : ℕ) (b : Clearing) → b ≡ cleared own p (sideOf lk t) axis b
   unfolding cleared sideOf
   passed-over Gone h t axis b = refl
   passed-over Bad h t axis b = refl
@@ -55,7 +48,7 @@ module _ (left right : List ℕ) (xs : List Float) (m own : ℕ) (p : Point3) wh
 
   -- l is the link as the code has it, s as the lists have it
   module _ (n s axis : ℕ) (b : Clearing) (l : ℕ) (lk : Link) (el : l ≡ s) (ek : lk ≡ linkOf m n l) where
-    pub side-none : Nowhere lk → Side n s axis b b
+    pub side-none : links.Nowhere lk → Side n s axis b b
     side-none h k hk =
         let z : lk ≡ linkOf m n s = cc in
         passed-over lk h (T k s) axis b ∙ ap (λ (y : Link). cleared own p (sideOf y (T k s)) axis b) z

@@ -46,8 +46,8 @@ module _ (kind : ℕ) (s : Sizes) (xs : List Float) (responses : ℕ) (angle rad
   enough =
       let v = verdictOf (loadLines kind s (lengthsIn responses d) xs angle radius rate) in
       let r = room kind s xs responses angle radius rate d v refl fine in
-      let n : length (cartesianFrom kind xs) ≤ length (d .cartesian) = omega (arith, as-long kind xs, exact kind s xs responses angle radius rate d v refl fine, r .2) in
-      record { some = r .0; most = r .1; positions = omega (arith, r .2, length-over (cartesianFrom kind xs) (d .cartesian) n); left = r .3; right = r .4 }
+      let n : length (cartesianFrom kind xs) ≤ length (d .cartesian) = omega (arith, as-long kind xs, exact kind s xs responses angle radius rate d v refl fine, r .1 .0) in
+      record { some = r .0; most = r .1 .3; positions = omega (arith, r .1 .0, length-over (cartesianFrom kind xs) (d .cartesian) n); left = r .1 .1; right = r .1 .2 }
 
   -- A LOADED SET'S TREE IS THE BARE ONE FILLED IN PLACE ORDER, each measurement's number being its place
   pub bare : filledWith cart (s .m) (linksOf (d .left) (d .right)) ≡ record { lists = listsOf cart (after .left) (after .right) (over (upto built.itself (s .m)) (replicate (s .m) 0)); count = s .m; bounds = boxOf cart (s .m) }

@@ -24,7 +24,7 @@ pub enum Loaded {
 
 // The Cartesian positions of a set; the list that they are written to is as long as the positions are. A load lets no kind pass but 0,
 // cartesian, and 1, spherical.
-fn place(kind: u32, positions: &[f32], cartesian: &mut [f32])
+fn write_cartesian(kind: u32, positions: &[f32], cartesian: &mut [f32])
     requires { ⌜ length (now positions) ≡ length (now cartesian) ⌝ }
     ensures { λ _. ⌜ now (cartesian .exit) ≡ cartesianFrom kind (now (positions .entry)) ⌝ }
 {
@@ -106,7 +106,7 @@ pub fn load(
         return Loaded::Refused(limits::reason(told), limits::place(told));
     };
     let m = sizes.m;
-    place(kind, positions, &mut cartesian[..3 * m]);
+    write_cartesian(kind, positions, &mut cartesian[..3 * m]);
     index(
         m,
         angle_step,

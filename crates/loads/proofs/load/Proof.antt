@@ -32,27 +32,27 @@ returns c =
     let j = c .before .before .before .before .judge-load in
     refused (a .kind) (a .sizes) (now (a .positions)) (length (now (a .responses))) (a .angle-step) (a .radius-step) (a .rate) (workOf (now (a .left)) (now (a .right)) (now (a .neighbours)) (now (a .cartesian))) (j .result) (j .ensures) (c .before .reason .result) (c .place .result) _ _ (c .before .before .enum-told2 .given .1) (c .before .reason .ensures) (c .place .ensures)
 
-mul-place : tie.Need-mul-place
-mul-place c =
+mul-write-cartesian : tie.Need-mul-write-cartesian
+mul-write-cartesian c =
     let a = c .before .before .before .before .before .before .before .before .before .args in
     let j = c .before .before .judge-load in
     let h = room (a .kind) (a .sizes) (now (a .positions)) (length (now (a .responses))) (a .angle-step) (a .radius-step) (a .rate) (workOf (now (a .left)) (now (a .right)) (now (a .neighbours)) (now (a .cartesian))) (j .result) (j .ensures) (c .enum-told .given .1) in
-    omega (arith, h .1)
+    omega (arith, h .1 .3)
 
-slice-relend-prefix-place : tie.Need-slice-relend-prefix-place
-slice-relend-prefix-place c =
+slice-relend-prefix-write-cartesian : tie.Need-slice-relend-prefix-write-cartesian
+slice-relend-prefix-write-cartesian c =
     let a = c .before .before .before .before .before .before .before .before .before .args in
     let j = c .before .before .judge-load in
-    room (a .kind) (a .sizes) (now (a .positions)) (length (now (a .responses))) (a .angle-step) (a .radius-step) (a .rate) (workOf (now (a .left)) (now (a .right)) (now (a .neighbours)) (now (a .cartesian))) (j .result) (j .ensures) (c .enum-told .given .1) .2
+    room (a .kind) (a .sizes) (now (a .positions)) (length (now (a .responses))) (a .angle-step) (a .radius-step) (a .rate) (workOf (now (a .left)) (now (a .right)) (now (a .neighbours)) (now (a .cartesian))) (j .result) (j .ensures) (c .enum-told .given .1) .1 .0
 
-slice-aggregate-place : tie.Need-slice-aggregate-place
-slice-aggregate-place c =
+slice-aggregate-write-cartesian : tie.Need-slice-aggregate-write-cartesian
+slice-aggregate-write-cartesian c =
     let a = c .before .before .before .before .before .before .before .before .before .before .args in
     let j = c .before .before .before .judge-load in
     sym (length-take-le (3 * a .sizes .m) (now (a .cartesian)) (room (a .kind) (a .sizes) (now (a .positions)) (length (now (a .responses))) (a .angle-step) (a .radius-step) (a .rate) (workOf (now (a .left)) (now (a .right)) (now (a .neighbours)) (now (a .cartesian))) (j .result) (j .ensures) (c .before .enum-told .given .1) .1 .0))
 
-place-requires-2 : tie.Need-place-requires-2
-place-requires-2 c κs =
+write-cartesian-requires : tie.Need-write-cartesian-requires
+write-cartesian-requires c κs =
     let a = c .before .before .before .before .before .before .before .before .before .before .args in
     let j = c .before .before .before .judge-load in
     exact (a .kind) (a .sizes) (now (a .positions)) (length (now (a .responses))) (a .angle-step) (a .radius-step) (a .rate) (workOf (now (a .left)) (now (a .right)) (now (a .neighbours)) (now (a .cartesian))) (j .result) (j .ensures) (c .before .enum-told .given .1) ∙ sym (length-take-le (3 * a .sizes .m) (now (a .cartesian)) (room (a .kind) (a .sizes) (now (a .positions)) (length (now (a .responses))) (a .angle-step) (a .radius-step) (a .rate) (workOf (now (a .left)) (now (a .right)) (now (a .neighbours)) (now (a .cartesian))) (j .result) (j .ensures) (c .before .enum-told .given .1) .1 .0))
@@ -61,7 +61,7 @@ index-requires : tie.Need-index-requires
 index-requires c κs =
     let a = c .before .before .before .before .before .before .before .before .before .before .before .before .before .before .before .before .before .args in
     let j = c .before .before .before .before .before .before .before .before .before .before .judge-load in
-    let p = c .before .before .before .before .before .before .place2 in
+    let p = c .before .before .before .before .before .before .write-cartesian in
     let l = ap length (p .ensures) ∙ as-long (a .kind) (now (a .positions)) ∙ exact (a .kind) (a .sizes) (now (a .positions)) (length (now (a .responses))) (a .angle-step) (a .radius-step) (a .rate) (workOf (now (a .left)) (now (a .right)) (now (a .neighbours)) (now (a .cartesian))) (j .result) (j .ensures) (c .before .before .before .before .before .before .before .before .enum-told .given .1) in
     let h = room (a .kind) (a .sizes) (now (a .positions)) (length (now (a .responses))) (a .angle-step) (a .radius-step) (a .rate) (workOf (now (a .left)) (now (a .right)) (now (a .neighbours)) (now (a .cartesian))) (j .result) (j .ensures) (c .before .before .before .before .before .before .before .before .enum-told .given .1) in
     (h .0, (front-fits (3 * a .sizes .m) (p .last .1 .1 .0) (now (a .cartesian)) l, h .1 .1, h .1 .2, h .1 .3), h .2)
@@ -82,7 +82,7 @@ returns-2 : tie.Need-returns-2
 returns-2 c =
     let a = c .before .before .before .before .before .before .before .before .before .before .before .before .before .before .before .before .before .before .before .before .before .before .before .before .args in
     let j = c .before .before .before .before .before .before .before .before .before .before .before .before .before .before .before .before .before .judge-load in
-    let p = c .before .before .before .before .before .before .before .before .before .before .before .before .before .place2 in
+    let p = c .before .before .before .before .before .before .before .before .before .before .before .before .before .write-cartesian in
     let l = ap length (p .ensures) ∙ as-long (a .kind) (now (a .positions)) ∙ exact (a .kind) (a .sizes) (now (a .positions)) (length (now (a .responses))) (a .angle-step) (a .radius-step) (a .rate) (workOf (now (a .left)) (now (a .right)) (now (a .neighbours)) (now (a .cartesian))) (j .result) (j .ensures) (c .before .before .before .before .before .before .before .before .before .before .before .before .before .before .before .enum-told .given .1) in
     ready (a .kind) (a .sizes) (now (a .positions)) (length (now (a .responses))) (a .angle-step) (a .radius-step) (a .rate) (workOf (now (a .left)) (now (a .right)) (now (a .neighbours)) (now (a .cartesian))) (j .result) (j .ensures) (c .before .before .before .before .before .before .before .before .before .before .before .before .before .before .before .enum-told .given .1) _ _ (front (3 * a .sizes .m) (p .last .1 .1 .0) _ (now (a .cartesian)) (p .ensures) l) (c .before .before .before .before .before .before .index .ensures)
 
@@ -96,10 +96,10 @@ load-spec =
     reason-requires
     place-requires
     returns
-    mul-place
-    slice-relend-prefix-place
-    slice-aggregate-place
-    place-requires-2
+    mul-write-cartesian
+    slice-relend-prefix-write-cartesian
+    slice-aggregate-write-cartesian
+    write-cartesian-requires
     index-requires
     same-length
     same-length-2

@@ -64,7 +64,10 @@ returns c =
     table.part-refused (tableEntry (a .look) (a .m) (now (a .cartesian)) (now (a .left)) (now (a .right)) (a .angle-step) (a .radius-step)) 6 b j (6 * i) (l .neighbours) ej _ _ (c .before .before .before .before .find-neighbors .ensures) _ _ (c .enum-told2 .given .1) ∙ l .inv .2
 
 add-i : tie.Need-add-i Inv-loop μ-loop
-add-i c = let t = c .before .before .before .before .before .before .before .before .loop-test .taken in let h = c .before .before .before .before .before .before .before .before .before .before .before .before .before .before .before .pre .3 in omega (arith, t, h)
+add-i c =
+    let t = c .before .before .before .before .before .before .before .before .loop-test .taken in
+    let h = c .before .before .before .before .before .before .before .before .before .before .before .before .before .before .before .pre .0 .3 in
+    omega (arith, t, h)
 
 loop-less : tie.Need-loop-less Inv-loop μ-loop
 loop-less c = let t = c .before .before .before .before .before .before .before .before .loop-test .taken in omega (arith, t)

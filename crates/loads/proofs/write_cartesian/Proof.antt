@@ -1,9 +1,9 @@
--- `loads::place` meets its contract. Assumes nothing.
+-- `loads::write_cartesian` meets its contract. Assumes nothing.
 use denote.Ref.{now}
 use Rattle.loads.proofs.Ways.{as-given, turned-there}
 use borrow.Author.Needs.{needs}
-use Rattle.loads.proofs.place.Statement.{statement}
-use Rattle.loads.proofs.place.Tie as tie
+use Rattle.loads.proofs.write_cartesian.Statement.{statement}
+use Rattle.loads.proofs.write_cartesian.Tie as tie
 
 copy-requires : tie.Need-copy-requires
 copy-requires c κs = search needs
@@ -27,7 +27,7 @@ returns-2 c =
     let a = c .before .before .before .before .before .before .before .before .before .before .before .args in
     turned-there (a .kind) (now (a .positions)) _ _ (now (a .cartesian)) (c .before .before .before .before .before .before .before .before .before .before .before .pre) (c .before .before .before .before .before .before .before .copy .ensures) (c .before .before .before .before .match .rest .1) (c .before .before .convert-triplets .ensures)
 
-pub place-spec : {M : Type 1} → statement M
-place-spec =
+pub write-cartesian-spec : {M : Type 1} → statement M
+write-cartesian-spec =
     tie.close
     (tie.spec copy-requires convert-triplets-requires same-length returns same-length-2 returns-2)
