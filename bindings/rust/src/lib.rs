@@ -19,7 +19,7 @@
 //! assert_eq!((left, right, told.points()), ([0.5], [0.25], 1));
 //! assert_eq!(told.delays().left.0, 375.0 / 48000.0);
 //!
-//! let nearest = set.find([-3.0, 0.5, 0.0])?;
+//! let nearest = set.find([-3.0, 0.5, 0.0])?.number;
 //! assert_eq!((nearest, set.left_response(nearest)?), (1, &[1.0][..]));
 //!
 //! let refusal = set.filter([0.0, f32::NAN, 0.0], &mut left, &mut right).unwrap_err();
@@ -97,16 +97,18 @@ mod description;
 mod environment;
 #[allow(unsafe_code)]
 pub mod ffi;
+mod index;
 mod refusal;
 mod set;
 pub mod stack;
 mod tree;
 
 pub use description::{Description, Kind};
-pub use ffi::{BoundingBox, Coordinates, Lookup};
+pub use ffi::{BoundingBox, Coordinates};
+pub use index::{Index, Lookup};
 pub use refusal::{Reason, Refusal};
-pub use set::{Delays, Filtered, Index, Neighbors, Seconds, Set};
-pub use tree::Tree;
+pub use set::{Delays, Filtered, Found, Neighbors, Seconds, Set};
+pub use tree::{Nearest, Tree};
 
 use refusal::said;
 
@@ -171,3 +173,23 @@ pub fn to_cartesian(values: &mut [f32]) -> Result<(), Refusal> {
     let r = ffi::to_cartesian(values);
     said(r.reason, r.place)
 }
+
+/// What later versions add to is nothing that a caller can write out, so that none breaks by it. The compiler refuses each of these:
+///
+/// ```compile_fail,E0639
+/// sofa::Found { number: 0 };
+/// ```
+/// ```compile_fail,E0639
+/// sofa::Nearest { number: 0 };
+/// ```
+/// ```compile_fail,E0639
+/// sofa::Delays { left: sofa::Seconds(0.0), right: sofa::Seconds(0.0) };
+/// ```
+/// ```compile_fail,E0639
+/// sofa::Neighbors { phi_plus: None, phi_minus: None, theta_plus: None, theta_minus: None, radius_plus: None, radius_minus: None };
+/// ```
+/// ```compile_fail,E0639
+/// sofa::Refusal { reason: sofa::Reason::Rate, place: 0 };
+/// ```
+#[cfg(doctest)]
+mod answers {}
