@@ -41,7 +41,8 @@ mod machine {
     /// The six flags of exceptions that were met, which decide nothing.
     const FLAGS: u32 = 0x3f;
 
-    /// Puts the default in force and answers what was there, nothing where that is the default.
+    /// Puts the default in force and answers what was there, nothing where that is the default. Flags stay raised meanwhile: a processor may
+    /// take ten times as long where one is cleared and raised again.
     #[inline]
     pub(super) fn enter() -> Option<Host> {
         let mut host = 0;
@@ -50,14 +51,19 @@ mod machine {
         if host & !FLAGS == DEFAULT {
             return None;
         }
-        leave(DEFAULT);
+        write(DEFAULT | host & FLAGS);
         Some(host)
     }
 
     #[inline]
     pub(super) fn leave(host: Host) {
-        // SAFETY: reads the four bytes of a local, which are the default or what `enter` read: no reserved bit is set.
-        unsafe { asm!("ldmxcsr [{}]", in(reg) std::ptr::addr_of!(host), options(nostack)) };
+        write(host);
+    }
+
+    #[inline]
+    fn write(register: u32) {
+        // SAFETY: reads the four bytes of a local, which are the default with flags, or what `enter` read: no reserved bit is set.
+        unsafe { asm!("ldmxcsr [{}]", in(reg) std::ptr::addr_of!(register), options(nostack)) };
     }
 }
 
@@ -72,8 +78,8 @@ mod machine {
         status: u64,
     }
 
-    /// No traps, nearest even, no flush-to-zero, NaNs as they come; no flag raised.
-    const DEFAULT: Host = Host { control: 0, status: 0 };
+    /// FPCR: no traps, nearest even, no flush-to-zero, NaNs as they come.
+    const DEFAULT: u64 = 0;
 
     /// Puts the default in force and answers what was there, nothing where that is the default.
     #[inline]
@@ -81,19 +87,18 @@ mod machine {
         let control: u64;
         // SAFETY: reads a register that every thread may read.
         unsafe { asm!("mrs {}, fpcr", out(reg) control, options(nomem, nostack, preserves_flags)) };
-        if control == DEFAULT.control {
+        if control == DEFAULT {
             return None;
         }
         let status: u64;
-        // SAFETY: the same of another one.
-        unsafe { asm!("mrs {}, fpsr", out(reg) status, options(nostack, preserves_flags)) };
-        leave(DEFAULT);
+        // SAFETY: reads another such register, and writes the default to the first, as every thread may.
+        unsafe { asm!("mrs {}, fpsr", "msr fpcr, {}", out(reg) status, in(reg) DEFAULT, options(nostack, preserves_flags)) };
         Some(Host { control, status })
     }
 
     #[inline]
     pub(super) fn leave(host: Host) {
-        // SAFETY: writes the default, or what `enter` read, to registers that every thread may write.
+        // SAFETY: writes what `enter` read to registers that every thread may write.
         unsafe { asm!("msr fpcr, {}", "msr fpsr, {}", in(reg) host.control, in(reg) host.status, options(nostack, preserves_flags)) };
     }
 }

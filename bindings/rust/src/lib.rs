@@ -32,8 +32,8 @@
 //! Cartesian coordinates are metres from the middle of the head: x ahead, y to the left, z up. Spherical ones are azimuth, elevation and
 //! radius. Azimuth is in degrees, counter-clockwise as seen from above: 0 ahead, 90 to the left, 270 to the right, and always below 360.
 //! Elevation is in degrees from −90, below, over 0 to 90, above. Radius is in metres. A set may be given in either ([`Kind`]), with angles of
-//! any turn up to ±720; queries are Cartesian, and [`to_cartesian`] makes them of spherical ones. The angles of [`sine`], [`cosine`] and
-//! [`arctangent`] alone are radians.
+//! any turn up to ±720: an elevation beyond 90 goes on over the top, 100 at azimuth 0 being 80 at azimuth 180 but for roundings. Queries are
+//! Cartesian, and [`to_cartesian`] makes them of spherical ones. The angles of [`sine`], [`cosine`] and [`arctangent`] alone are radians.
 //!
 //! Delays go in as samples and come out as [`Seconds`]. The rate is samples a second.
 //!
@@ -73,8 +73,8 @@
 //! neither is written where the host has not changed it). A host in Rust has nothing to do, and is given the same bits whatever its threads
 //! have set. `include/sofa.h` says the same to hosts in C, under "the floating-point environment", with two functions to do it by hand.
 //!
-//! Beside a search this takes no time that can be measured, and some 10 ns where the host has changed the register. A call as short as
-//! [`root`], 7 ns, takes 0.6 ns more, and 80 ns more where the register is written (`cargo run --release --example cost`).
+//! Beside a search this takes no time that can be measured. A call as short as [`root`], 6 ns, takes 1 ns more, and some 5 ns more where the
+//! register is written (`cargo run --release --example cost`).
 //!
 //! # The archive
 //!

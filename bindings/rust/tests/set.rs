@@ -213,3 +213,14 @@ fn numbers() {
     assert_eq!(values[..3], [90.0, 0.0, 2.0]);
     assert!(values[3].is_nan());
 }
+
+/// Straight up and down are the ends of an answered elevation; a given one beyond them goes on over the top.
+#[test]
+fn elevations() {
+    let mut ends = [0.0, 0.0, 2.0, 0.0, 0.0, -2.0];
+    sofa::to_spherical(&mut ends).unwrap();
+    assert_eq!((ends[1], ends[4]), (90.0, -90.0));
+    let mut over = [0.0, 100.0, 1.0, 180.0, 80.0, 1.0];
+    sofa::to_cartesian(&mut over).unwrap();
+    assert!((0..3).all(|axis| (over[axis] - over[axis + 3]).abs() < 1e-6) && over[0] < -0.1, "{over:?}");
+}
