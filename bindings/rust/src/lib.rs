@@ -85,7 +85,8 @@
 //! links does not.
 //!
 //! The crate is for the archive of its own version: [`version`] says which is linked. A newer one may give reasons that have no name here
-//! ([`Reason::Unknown`]).
+//! ([`Reason::Unknown`]). Later versions of the crate are meant to break no caller of its types: what may get a field cannot be written out
+//! whole, and a pattern ends in `..`. Only [`ffi`] follows the header.
 //!
 //! The build script of a crate that depends on this one is told of the archive's folder as `DEP_SOFA_ROOT`, and of that of `sofa.h` as
 //! `DEP_SOFA_INCLUDE`.

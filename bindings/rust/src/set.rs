@@ -143,10 +143,10 @@ impl<R: AsRef<[f32]>, D: AsRef<[f32]>> Set<R, D> {
         Ok(Set::with_index(described, index, responses, delays))
     }
 
-    /// A set over an index that was kept from an earlier load. It cannot fail, since nothing is checked here: each query checks, every time,
-    /// what it goes by, and refuses then. So it is with the sizes, the rate and the lengths of lists, and so it will be with all that later
-    /// versions let a description or an index declare, as what the delays are by. Of the description the sizes and the rate are used, not the
-    /// kind and the steps, which the index was made with.
+    /// A set over an index that was kept from an earlier load. It cannot fail, since nothing is checked here: the archive checks at each query
+    /// what that goes by, the sizes, the rate and the lengths of lists, and refuses then. The same holds for what later versions let a set
+    /// declare, such as a shape of its delays. Of the description the sizes and the rate are used, not the kind and the steps, which the
+    /// index was made with.
     pub fn with_index(described: Description, index: Index, responses: R, delays: D) -> Set<R, D> {
         Set { described, index, responses, delays }
     }

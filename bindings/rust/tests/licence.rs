@@ -24,7 +24,8 @@ fn each_file_names_it() {
 #[test]
 fn the_packed_crate_has_its_words() {
     let manifest = format!("{CRATE}/Cargo.toml");
-    let packed = Command::new(env!("CARGO")).args(["package", "--list", "--offline", "--allow-dirty", "--manifest-path", &manifest]).output().unwrap();
+    let packed =
+        Command::new(env!("CARGO")).args(["package", "--list", "--offline", "--allow-dirty", "--manifest-path", &manifest]).output().unwrap();
     let packed = String::from_utf8(packed.stdout).unwrap();
     for name in ["LICENSE-MIT", "LICENSE-APACHE", "NOTICE"] {
         assert!(packed.lines().any(|line| line == name), "{name} is not among {packed}");
