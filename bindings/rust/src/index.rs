@@ -5,9 +5,10 @@ use crate::ffi::{self, BoundingBox};
 
 pub(crate) const ABSENT: u16 = 65535;
 
-/// The box of a set's tree and the six bounds of its positions: azimuth (phi) and elevation (theta) in degrees, radius in metres. It is the
-/// struct of [`ffi`] to which it can be turned and back, and like [`Index`] it has more fields in later versions: who writes one out ends it
-/// in `..Lookup::default()`, else it is not compiled.
+/// The box of a set's tree and the six bounds of its positions: azimuth (phi) and elevation (theta) in degrees, radius in metres. It can be
+/// made of an [`ffi::Lookup`] and into one.
+///
+/// Later versions have more fields, as with [`Index`]: who writes one out ends it in `..Lookup::default()`, else it is not compiled.
 ///
 /// ```compile_fail,E0063
 /// use sofa::{BoundingBox, Lookup};

@@ -69,9 +69,10 @@
 //!
 //! The archive is proved for IEEE 754 as it stands: rounding to nearest even, and subnormal numbers kept. A thread that renders audio often
 //! has it otherwise (flush-to-zero, denormals-are-zero): then a refusal would be lost, another measurement found, a root wrong. So every
-//! call of this crate puts the default environment in force, and the host's again before it returns (MXCSR on x86-64, FPCR on aarch64;
-//! neither is written where the host has not changed it). A host in Rust has nothing to do, and is given the same bits whatever its threads
-//! have set. `include/sofa.h` says the same to hosts in C, under "the floating-point environment", with two functions to do it by hand.
+//! call of this crate puts the default environment in force, and the host's again before it returns (MXCSR on x86-64, FPCR and FPSR on
+//! aarch64; nothing is written where the host has not changed it). A host in Rust has nothing to do, and is given the same bits whatever its
+//! threads have set. `include/sofa.h` says the same to hosts in C, under "the floating-point environment", with two functions to do it by
+//! hand.
 //!
 //! Beside a search this takes no time that can be measured. A call as short as [`root`], 6 ns, takes 1 ns more, and some 5 ns more where the
 //! register is written (`cargo run --release --example cost`).
