@@ -37,8 +37,18 @@ fn used(host: &Host) -> usize {
     unsafe { stack_used() }
 }
 
+/// A figure of the header.
+fn planned(name: &str) -> usize {
+    let text = include_str!("../include/sofa.h").lines().find_map(|l| l.strip_prefix(&format!("#define {name} ")));
+    text.and_then(|figure| figure.trim_end_matches('u').parse().ok()).expect(name)
+}
+
 pub fn tell() {
     let (short, long) = (used(&chain(1024)), used(&chain(16384)));
-    let level = (long - short) / (16384 - 1024);
-    println!("A search takes {level} bytes of stack a level on this machine; `find` in a chain of 16384 places took\n{long} bytes in all, {:.2} MiB.", long as f64 / 1048576.0);
+    let measured = (long - short) / (16384 - 1024);
+    let level = planned("SOFA_STACK_LEVEL");
+    let most = ((planned("SOFA_STACK") + 16384 * level) as f64 / 104857.6).ceil() / 10.0;
+    println!("To plan with are the header's figures: {level} bytes a level of the tree and {most} MiB for any call, for both machines.");
+    println!("Measured in this run, on this machine alone: {measured} bytes a level of a search, and {long} bytes in all ({:.2} MiB)", long as f64 / 1048576.0);
+    println!("of a `find` in a chain of 16384 places.");
 }

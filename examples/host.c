@@ -1,3 +1,4 @@
+/* SPDX-License-Identifier: MIT OR Apache-2.0 */
 /* A C host: loads a set of two measurements, asks a blended, an exact and a refused query, and prints what is answered. */
 #include <math.h>
 #include <stdio.h>

@@ -1,3 +1,4 @@
+/* SPDX-License-Identifier: MIT OR Apache-2.0 */
 /*
  * A measured set: libmysofa reads a .sofa file (argument 1, or the MIT KEMAR set that Debian's libmysofa1 brings along), the lists that it
  * holds are lent to sofa_load as they are, and the filter at a point is asked, with the measurements that it comes from.

@@ -1,3 +1,4 @@
+/* SPDX-License-Identifier: MIT OR Apache-2.0 */
 /*
  * sofa.h: what a C host can call. Each call answers for every input. A host sees to four things only:
  *
@@ -11,9 +12,11 @@
  * A list is lent as a pointer and a count of elements. Nothing is allocated, nothing is kept between calls: a set is the lists that
  * the host holds and a sofa_lookup by value. Calls share no state: several threads may go by the same lists as long as none writes them.
  *
- * Coordinates: x is ahead, y to the left, z up. Azimuth is in degrees, 0 ahead and 90 to the left; a conversion answers it from 0 on and
- * below 360, and takes any turn up to 720. Elevation is in degrees, 0 level, 90 up, -90 down. Angles of sofa_sine, sofa_cosine and
- * sofa_arctangent alone are in radians. Lengths are in metres, as in SOFA files: radius, coordinates, the radius step.
+ * Coordinates: the origin is the middle of the head, x is ahead, y to the left, z up. Azimuth is in degrees, 0 ahead and 90 to the left;
+ * a conversion answers it from 0 on and below 360, and takes any turn up to 720. Elevation is in degrees, 0 level, 90 up, -90 down; a
+ * conversion answers it from -90 to 90, and takes any up to 720 as it takes a turn: beyond 90 it goes on over the top, so that azimuth 0
+ * with elevation 100 is azimuth 180 with 80, but for roundings. Angles of sofa_sine, sofa_cosine and sofa_arctangent alone are in radians.
+ * Lengths are in metres, as in SOFA files: radius, coordinates, the radius step.
  *
  * A measurement's number is its place in the set, from 0. Answers and lists hold it in 16 bits, m being at most 16384; SOFA_ABSENT stands
  * for none. Arguments take it as a size_t, as they take every count: nothing is cut off before it is looked at, and what is no number of
@@ -45,18 +48,19 @@
  *   stack    in bytes, as measured for the archive (tests/stack.c) and rounded up, the arguments that are handed over on it included. A
  *            level is one step down the tree: a set that comes in no order has about 35 for 16384 measurements, one that is sorted along
  *            all three axes as many as measurements. Where a host's symbols are bound late, the loader comes on top of it at the first
- *            call of fmodf (in a conversion or a load) and of memset (in a filter): 3.1 KiB were measured with glibc 2.36 on a processor
- *            with AVX-512, whose registers it puts there. Link with -z now, or count it, or make one such call on a roomier stack first.
+ *            call of fmodf (in a conversion or a load) and of memset (in a filter), and puts the processor's registers there. Seen were
+ *            3.1 KiB with glibc 2.36 on an x86-64 with AVX-512, and 1 KiB on a 64-bit Arm (1928 bytes against 888 for a load as it then
+ *            was). Link with -z now, or count it, or make one such call on a roomier stack first.
  *
  * The archive, libsofa.a (bin/archive), is for Linux on x86-64 or on 64-bit Arm, any processor of the kind, and can stand in a shared
  * library. It needs the C library's memset and fmodf, so link -lm behind it, and nothing else. A shared library that should not hand
  * these names on, a plug-in for one, of which a process may hold two, is linked with -Wl,--exclude-libs,ALL (GNU ld and lld).
  *
- * Time (docs/SPEED.md): a find takes 0.5 to 2 microseconds, a filter of 512 taps 1 to 4. A load with steps 0.5 and 0.01 takes 6 to 9 ms for
- * 1000 measurements at random on a sphere, 0.1 s for 16384, and up to five times as long on a grid. What makes it longer is order: a set
- * sorted along all three axes is one chain, 3.2 s for 4096, and one ring in order of azimuth, where most points lie as near to many
- * measurements, takes 1.1 s for 1024 and 3.4 s for 2048, a sixth of it for the same ring in no order. Steps of 0.1 and 0.001 take three to
- * five times as long as these. No load belongs on an audio thread.
+ * Time (docs/SPEED.md): a find takes 0.5 to 3.7 microseconds, a filter of 512 taps 0.9 to 4.9. A load with steps 0.5 and 0.01 takes 8 ms
+ * for 1000 measurements at random on a sphere and 0.14 s for 16384; on a grid 14 ms and 0.94 s. What makes it longer is order: a set sorted
+ * along all three axes is one chain, 2.2 s for 4096, and four times as long for twice as many; one ring in order of azimuth, where most
+ * points lie as near to many measurements, takes several times as long as the same ring in no order. Finer steps take longer, too. No load
+ * belongs on an audio thread.
  */
 #ifndef SOFA_H
 #define SOFA_H
@@ -70,7 +74,9 @@ extern "C" {
 
 /*
  * The version that this header is of. Within one first part of at least 1, and within one second part below that, what stands here stays
- * and more may come. sofa_version says the same of the archive: where the two differ, one of them is another version's.
+ * and more may come. While the first part is 0, with a new second part structs may have more fields at their end and calls more arguments:
+ * a host is then compiled again, with that header. sofa_version says the same of the archive: where the two differ, one of them is another
+ * version's.
  */
 #define SOFA_VERSION_MAJOR 0
 #define SOFA_VERSION_MINOR 1
@@ -147,7 +153,7 @@ typedef struct {
  *
  * sofa_enter puts the default environment in force for this thread and hands back the host's, sofa_leave puts that back in force: rounding,
  * flushing, masks and the flags that were raised before; what the calls between them raised is forgotten. Leave the host's own arithmetic
- * outside: a compiler may move it across either of the two. Both together take some 40 ns around a short call. A thread whose environment
+ * outside: a compiler may move it across either of the two. Both together take some 5 ns around a short call. A thread whose environment
  * nobody changed needs neither. They are for gcc and clang on x86-64 and on 64-bit Arm; elsewhere they are not declared, so that a host
  * that asks for them is not built.
  */
@@ -157,8 +163,9 @@ typedef struct { uint32_t control, status; } sofa_environment;
 
 static inline sofa_environment sofa_enter(void) {
     sofa_environment host = {0, 0};
-    uint32_t start = 0x1f80; /* MXCSR: all six exceptions masked and none raised, to nearest, no FTZ, no DAZ */
+    uint32_t start = 0x1f80; /* MXCSR: all six exceptions masked, to nearest, no FTZ, no DAZ */
     __asm__ __volatile__("stmxcsr %0" : "=m"(host.control) : : "memory");
+    start |= host.control & 0x3f; /* flags stay raised: a processor may take ten times as long where one is cleared and raised again */
     __asm__ __volatile__("ldmxcsr %0" : : "m"(start) : "memory");
     return host;
 }
@@ -171,9 +178,9 @@ static inline void sofa_leave(sofa_environment host) {
 
 static inline sofa_environment sofa_enter(void) {
     sofa_environment host;
-    uint64_t control, status, start = 0; /* FPCR: to nearest, nothing flushed, nothing trapped; FPSR: nothing raised */
+    uint64_t control, status, start = 0; /* FPCR: to nearest, nothing flushed, nothing trapped */
     __asm__ __volatile__("mrs %0, fpcr\n\tmrs %1, fpsr" : "=r"(control), "=r"(status) : : "memory");
-    __asm__ __volatile__("msr fpcr, %0\n\tmsr fpsr, %0" : : "r"(start) : "memory");
+    __asm__ __volatile__("msr fpcr, %0" : : "r"(start) : "memory");
     host.control = (uint32_t)control;
     host.status = (uint32_t)status;
     return host;

@@ -1,8 +1,10 @@
+/* SPDX-License-Identifier: MIT OR Apache-2.0 */
 /*
  * The floating-point environment: sofa_enter and sofa_leave around calls give the answers of a thread that changed nothing, bit for bit,
  * whatever the host has in force: flush-to-zero of results, of operands, of both, the three other rounding directions, exceptions that are
- * not masked, flags. Flushing and rounding each change an answer where the two are left out, so that the comparison can fail; and what the
- * header names is met: a refusal that is lost, another measurement, a wrong root.
+ * not masked, flags. Afterwards the host's environment is there again, the flags that were raised before and no others. Flushing and
+ * rounding each change an answer where the two are left out, so that the comparison can fail; and what the header names is met: a refusal
+ * that is lost, another measurement, a wrong root.
  */
 #include <stdio.h>
 #include <string.h>
@@ -13,55 +15,60 @@
 
 #if defined(__x86_64__)
 
+/* MXCSR, in which the flags stand too */
 static const struct {
     const char *name;
-    uint32_t control;
+    sofa_environment is;
 } hosts[] = {
-    {"flush-to-zero", 0x9fc0},
-    {"flush-to-zero of results", 0x9f80},
-    {"flush-to-zero of operands", 0x1fc0},
-    {"down", 0x3f80},
-    {"up", 0x5f80},
-    {"toward zero", 0x7f80},
-    {"exceptions not masked", 0x0000},
-    {"all of these", 0xe040},
-    {"flags raised before", 0x1fbf},
+    {"flush-to-zero", {0x9fc0, 0}},
+    {"flush-to-zero of results", {0x9f80, 0}},
+    {"flush-to-zero of operands", {0x1fc0, 0}},
+    {"down", {0x3f80, 0}},
+    {"up", {0x5f80, 0}},
+    {"toward zero", {0x7f80, 0}},
+    {"exceptions not masked", {0x0000, 0}},
+    {"all of these", {0xe040, 0}},
+    {"flags raised before", {0x1fbf, 0}},
 };
 enum { FLUSHED = 0, CHANGED = 6 }; /* the first; and how many change an answer (the others may trap, or only have flags) */
 
-static void set(uint32_t control) {
-    __asm__ __volatile__("ldmxcsr %0" : : "m"(control) : "memory");
+static void set(sofa_environment e) {
+    __asm__ __volatile__("ldmxcsr %0" : : "m"(e.control) : "memory");
 }
 
-static uint32_t get(void) {
-    uint32_t control = 0;
-    __asm__ __volatile__("stmxcsr %0" : "=m"(control) : : "memory");
-    return control;
+static sofa_environment get(void) {
+    sofa_environment e = {0, 0};
+    __asm__ __volatile__("stmxcsr %0" : "=m"(e.control) : : "memory");
+    return e;
 }
 
 #elif defined(__aarch64__)
 
+/* FPCR, and FPSR with the flags: inexact is bit 4, and nearly every call raises it; 0x0800009f is all of them */
 static const struct {
     const char *name;
-    uint32_t control;
+    sofa_environment is;
 } hosts[] = {
-    {"flush-to-zero", 1u << 24},
-    {"up", 1u << 22},
-    {"down", 2u << 22},
-    {"toward zero", 3u << 22},
-    {"flush-to-zero and toward zero", 1u << 24 | 3u << 22},
+    {"flush-to-zero", {1u << 24, 0}},
+    {"up", {1u << 22, 0}},
+    {"down", {2u << 22, 0}},
+    {"toward zero", {3u << 22, 1}},
+    {"flush-to-zero and toward zero, flags raised before", {1u << 24 | 3u << 22, 0x0800009f}},
+    {"flags raised before", {0, 0x0800009f}},
 };
 enum { FLUSHED = 0, CHANGED = 5 };
 
-static void set(uint32_t control) {
-    uint64_t word = control;
-    __asm__ __volatile__("msr fpcr, %0" : : "r"(word) : "memory");
+static void set(sofa_environment e) {
+    uint64_t control = e.control, status = e.status;
+    __asm__ __volatile__("msr fpcr, %0\n\tmsr fpsr, %1" : : "r"(control), "r"(status) : "memory");
 }
 
-static uint32_t get(void) {
-    uint64_t word = 0;
-    __asm__ __volatile__("mrs %0, fpcr" : "=r"(word) : : "memory");
-    return (uint32_t)word;
+static sofa_environment get(void) {
+    sofa_environment e;
+    uint64_t control, status;
+    __asm__ __volatile__("mrs %0, fpcr\n\tmrs %1, fpsr" : "=r"(control), "=r"(status) : : "memory");
+    e.control = (uint32_t)control, e.status = (uint32_t)status;
+    return e;
 }
 
 #endif
@@ -267,10 +274,10 @@ static __attribute__((noinline)) void ask(record *r) {
     keep_bits(r, n.root);
 }
 
-static void check_named(uint32_t start) {
+static void check_named(sofa_environment start) {
     named n = ask_named();
     check(n.reason == 4 && n.number == 1 && n.root > 9e-21f, "the answers that the header names", "the start");
-    set(hosts[FLUSHED].control);
+    set(hosts[FLUSHED].is);
     n = ask_named();
     set(start);
     check(n.reason == 0, "a radius of -1e-40 is refused all the same", hosts[FLUSHED].name);
@@ -282,20 +289,21 @@ static void check_named(uint32_t start) {
 static record wanted, got;
 
 int main(void) {
-    uint32_t start = get();
+    sofa_environment start = get();
     ask(&wanted);
     for (int i = 0; i < HOSTS; i++) {
-        set(hosts[i].control);
+        set(hosts[i].is);
         sofa_environment host = sofa_enter();
         ask(&got);
         sofa_leave(host);
-        uint32_t after = get();
+        sofa_environment after = get();
         set(start);
-        check(after == hosts[i].control, "the host's environment is not back", hosts[i].name);
+        check(after.control == hosts[i].is.control, "the host's environment is not back", hosts[i].name);
+        check(after.status == hosts[i].is.status, "the host's flags are not back", hosts[i].name);
         check(got.count == wanted.count && memcmp(got.bytes, wanted.bytes, wanted.count) == 0, "an answer differs", hosts[i].name);
     }
     for (int i = 0; i < CHANGED; i++) {
-        set(hosts[i].control);
+        set(hosts[i].is);
         ask(&got);
         set(start);
         check(memcmp(got.bytes, wanted.bytes, wanted.count) != 0, "changes no answer: this test could not fail", hosts[i].name);

@@ -1,3 +1,4 @@
+/* SPDX-License-Identifier: MIT OR Apache-2.0 */
 /*
  * A shared library over the archive, as a plug-in is one, and with HOST the program that loads it: the archive's code runs from where the
  * loader put it, is the version that the header says, and none of its names is handed on.

@@ -1,3 +1,4 @@
+/* SPDX-License-Identifier: MIT OR Apache-2.0 */
 /*
  * Each refusal, 1 to 9, met from C on every call that can give it, alone and together with each later one; and what each lent list holds
  * afterwards, byte for byte, with the bytes before and behind it. Then what successful calls write, and the ends of what is allowed.

@@ -1,3 +1,4 @@
+/* SPDX-License-Identifier: MIT OR Apache-2.0 */
 /*
  * How much stack each call takes: it is made in a thread whose stack was painted, and the paint that is gone is measured. Searches and
  * inserts are made in chains of two depths, which gives the bytes of a level and the rest. Prints the call, the rest and the bytes of a

@@ -108,7 +108,7 @@ fn main() {
         let tree = Tree { positions: &index.cartesian, left: &index.left, right: &index.right };
         let each = |find: fn(Sizes, Lookup, Tree, [f32; 3]) -> Found| {
             for q in queries.chunks_exact(3) {
-                black_box(find(sizes, index.lookup, tree, [q[0], q[1], q[2]]));
+                black_box(find(sizes, index.lookup.into(), tree, [q[0], q[1], q[2]]));
             }
         };
         compare(&format!("find, M={m}"), &mut || each(find_alone), &mut || each(ffi::find));

@@ -22,7 +22,7 @@ fn ask(set: &Set<Vec<f32>>, at: Coordinates) -> Result<(), Refusal> {
         Filtered::Exact { delays, .. } => ("exact", delays),
         Filtered::Blended { delays, .. } => ("blended", delays),
     };
-    let (points, nearest) = (told.points(), set.find(at)?);
+    let (points, nearest) = (told.points(), set.find(at)?.number);
     println!("{how} of {points}, nearest {nearest}: left {} right {}, delays {} {} s", left[0], right[0], delays.left.0, delays.right.0);
     Ok(())
 }

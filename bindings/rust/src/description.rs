@@ -49,11 +49,12 @@ pub struct Description {
     pub radius_step: f32,
     /// Samples a second, 1000 to 384000. To be given.
     pub rate: f32,
+    /// Not to be named: write `..Description::default()`. It may be another field in any version.
     #[doc(hidden)]
     pub more: More,
 }
 
-/// Nothing, and there is nothing to write for it but a default: see [`Description`].
+/// Nothing, and there is nothing to write for it but a default. A struct with a field of it cannot be written without its last part.
 #[doc(hidden)]
 #[derive(Clone, Copy, Debug, Default, PartialEq)]
 pub struct More(());

@@ -3,6 +3,9 @@
 //!
 //! Each call is made in the default floating-point environment, and the host's is in force again afterwards.
 //!
+//! This module follows the header and is outside of the crate's promise about versions: where the header's structs get fields and its calls
+//! arguments, these do too.
+//!
 //! All `unsafe` is here, but for the register of that environment. What makes each call sound is the same throughout:
 //!
 //! - **Pointers and counts.** Each pair is taken from one slice, so it leads to as many initialised elements as it says. An empty slice's

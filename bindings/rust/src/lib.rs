@@ -19,7 +19,7 @@
 //! assert_eq!((left, right, told.points()), ([0.5], [0.25], 1));
 //! assert_eq!(told.delays().left.0, 375.0 / 48000.0);
 //!
-//! let nearest = set.find([-3.0, 0.5, 0.0])?;
+//! let nearest = set.find([-3.0, 0.5, 0.0])?.number;
 //! assert_eq!((nearest, set.left_response(nearest)?), (1, &[1.0][..]));
 //!
 //! let refusal = set.filter([0.0, f32::NAN, 0.0], &mut left, &mut right).unwrap_err();
@@ -32,8 +32,8 @@
 //! Cartesian coordinates are metres from the middle of the head: x ahead, y to the left, z up. Spherical ones are azimuth, elevation and
 //! radius. Azimuth is in degrees, counter-clockwise as seen from above: 0 ahead, 90 to the left, 270 to the right, and always below 360.
 //! Elevation is in degrees from −90, below, over 0 to 90, above. Radius is in metres. A set may be given in either ([`Kind`]), with angles of
-//! any turn up to ±720; queries are Cartesian, and [`to_cartesian`] makes them of spherical ones. The angles of [`sine`], [`cosine`] and
-//! [`arctangent`] alone are radians.
+//! any turn up to ±720: an elevation beyond 90 goes on over the top, 100 at azimuth 0 being 80 at azimuth 180 but for roundings. Queries are
+//! Cartesian, and [`to_cartesian`] makes them of spherical ones. The angles of [`sine`], [`cosine`] and [`arctangent`] alone are radians.
 //!
 //! Delays go in as samples and come out as [`Seconds`]. The rate is samples a second.
 //!
@@ -69,12 +69,13 @@
 //!
 //! The archive is proved for IEEE 754 as it stands: rounding to nearest even, and subnormal numbers kept. A thread that renders audio often
 //! has it otherwise (flush-to-zero, denormals-are-zero): then a refusal would be lost, another measurement found, a root wrong. So every
-//! call of this crate puts the default environment in force, and the host's again before it returns (MXCSR on x86-64, FPCR on aarch64;
-//! neither is written where the host has not changed it). A host in Rust has nothing to do, and is given the same bits whatever its threads
-//! have set. `include/sofa.h` says the same to hosts in C, under "the floating-point environment", with two functions to do it by hand.
+//! call of this crate puts the default environment in force, and the host's again before it returns (MXCSR on x86-64, FPCR and FPSR on
+//! aarch64; nothing is written where the host has not changed it). A host in Rust has nothing to do, and is given the same bits whatever its
+//! threads have set. `include/sofa.h` says the same to hosts in C, under "the floating-point environment", with two functions to do it by
+//! hand.
 //!
-//! Beside a search this takes no time that can be measured, and some 10 ns where the host has changed the register. A call as short as
-//! [`root`], 7 ns, takes 0.6 ns more, and 80 ns more where the register is written (`cargo run --release --example cost`).
+//! Beside a search this takes no time that can be measured. A call as short as [`root`], 6 ns, takes 1 ns more, and some 5 ns more where the
+//! register is written (`cargo run --release --example cost`).
 //!
 //! # The archive
 //!
@@ -85,7 +86,8 @@
 //! links does not.
 //!
 //! The crate is for the archive of its own version: [`version`] says which is linked. A newer one may give reasons that have no name here
-//! ([`Reason::Unknown`]).
+//! ([`Reason::Unknown`]). Later versions of the crate are meant to break no caller of its types: what may get a field cannot be written out
+//! whole, and a pattern ends in `..`. Only [`ffi`] follows the header.
 //!
 //! The build script of a crate that depends on this one is told of the archive's folder as `DEP_SOFA_ROOT`, and of that of `sofa.h` as
 //! `DEP_SOFA_INCLUDE`.
@@ -97,16 +99,18 @@ mod description;
 mod environment;
 #[allow(unsafe_code)]
 pub mod ffi;
+mod index;
 mod refusal;
 mod set;
 pub mod stack;
 mod tree;
 
 pub use description::{Description, Kind};
-pub use ffi::{BoundingBox, Coordinates, Lookup};
+pub use ffi::{BoundingBox, Coordinates};
+pub use index::{Index, Lookup};
 pub use refusal::{Reason, Refusal};
-pub use set::{Delays, Filtered, Index, Neighbors, Seconds, Set};
-pub use tree::Tree;
+pub use set::{Delays, Filtered, Found, Neighbors, Seconds, Set};
+pub use tree::{Nearest, Tree};
 
 use refusal::said;
 
@@ -171,3 +175,23 @@ pub fn to_cartesian(values: &mut [f32]) -> Result<(), Refusal> {
     let r = ffi::to_cartesian(values);
     said(r.reason, r.place)
 }
+
+/// What later versions add to is nothing that a caller can write out, so that none breaks by it. The compiler refuses each of these:
+///
+/// ```compile_fail,E0639
+/// sofa::Found { number: 0 };
+/// ```
+/// ```compile_fail,E0639
+/// sofa::Nearest { number: 0 };
+/// ```
+/// ```compile_fail,E0639
+/// sofa::Delays { left: sofa::Seconds(0.0), right: sofa::Seconds(0.0) };
+/// ```
+/// ```compile_fail,E0639
+/// sofa::Neighbors { phi_plus: None, phi_minus: None, theta_plus: None, theta_minus: None, radius_plus: None, radius_minus: None };
+/// ```
+/// ```compile_fail,E0639
+/// sofa::Refusal { reason: sofa::Reason::Rate, place: 0 };
+/// ```
+#[cfg(doctest)]
+mod answers {}

@@ -84,13 +84,22 @@ impl Reason {
 /// let refusal = sofa::sine(f32::INFINITY).unwrap_err();
 /// assert_eq!((refusal.reason, refusal.place), (sofa::Reason::NotFinite, 0));
 /// assert_eq!(refusal.to_string(), "a coordinate or an angle is not finite or out of range (refusal 7, place 0)");
+/// assert_eq!(refusal, sofa::Refusal::new(sofa::Reason::NotFinite, 0));
 /// ```
 #[derive(Clone, Copy, Debug, PartialEq, Eq, Hash)]
+#[non_exhaustive]
 pub struct Refusal {
     /// The line of the table.
     pub reason: Reason,
     /// What the line names: an index, an axis, a number, or 0.
     pub place: usize,
+}
+
+impl Refusal {
+    /// One that a host gives itself, or compares with.
+    pub const fn new(reason: Reason, place: usize) -> Refusal {
+        Refusal { reason, place }
+    }
 }
 
 impl fmt::Display for Refusal {

@@ -1,10 +1,9 @@
 // SPDX-License-Identifier: MIT OR Apache-2.0
 //! A set made ready, and what it is asked.
 use crate::description::Description;
-use crate::ffi::{self, Coordinates, Lookup};
+use crate::ffi::{self, Coordinates};
+use crate::index::{Index, ABSENT};
 use crate::refusal::{said, Reason, Refusal};
-
-const ABSENT: u16 = 65535;
 
 /// Seconds, as all delays are that a set answers. Those that it is loaded with are in samples.
 #[derive(Clone, Copy, Debug, PartialEq, PartialOrd)]
@@ -12,6 +11,7 @@ pub struct Seconds(pub f32);
 
 /// The delays of both ears.
 #[derive(Clone, Copy, Debug, PartialEq)]
+#[non_exhaustive]
 pub struct Delays {
     /// Of the left ear.
     pub left: Seconds,
@@ -19,7 +19,20 @@ pub struct Delays {
     pub right: Seconds,
 }
 
-/// What a filter answers beside the samples. Later versions tell more in both cases: a pattern ends in `..`.
+/// What [`Set::find`] answers. Later versions tell more: a pattern ends in `..`, and who means the number alone compares that.
+#[derive(Clone, Copy, Debug, PartialEq, Eq)]
+#[non_exhaustive]
+pub struct Found {
+    /// The number of the nearest measurement, as every call by number takes it.
+    pub number: usize,
+}
+
+fn found(f: ffi::Found) -> Result<Found, Refusal> {
+    said(f.reason, f.place).map(|()| Found { number: usize::from(f.number) })
+}
+
+/// What a filter answers beside the samples: one of these two, in later versions too, since document 01 has no third beside a refusal. Each
+/// may tell more then: a pattern ends in `..`.
 #[derive(Clone, Copy, Debug, PartialEq)]
 pub enum Filtered {
     /// One measurement as it is.
@@ -71,6 +84,7 @@ fn filtered(f: ffi::Filtered) -> Result<Filtered, Refusal> {
 
 /// The neighbours of a measurement in six directions, by number: azimuth (phi), elevation (theta), radius, each up and down.
 #[derive(Clone, Copy, Debug, PartialEq, Eq)]
+#[non_exhaustive]
 #[allow(missing_docs)]
 pub struct Neighbors {
     pub phi_plus: Option<usize>,
@@ -79,44 +93,6 @@ pub struct Neighbors {
     pub theta_minus: Option<usize>,
     pub radius_plus: Option<usize>,
     pub radius_minus: Option<usize>,
-}
-
-/// What a load works out and the queries go by: it can be kept, and given to [`Set::with_index`] in place of a load.
-///
-/// The queries refuse lists that are too short (3) and, when they meet them, bad links and neighbours (9). A box, bounds or positions that
-/// are not a load's are refused by nothing: the answers are then what the arithmetic gives.
-///
-/// Later versions have more fields, here and in [`Lookup`]: who writes one out ends it in `..Index::default()`.
-#[derive(Clone, Debug, Default, PartialEq)]
-pub struct Index {
-    /// The box of the tree and the six bounds.
-    pub lookup: Lookup,
-    /// Links to the left, one for each measurement; 65535 is absent, here and below.
-    pub left: Vec<u16>,
-    /// Links to the right, one for each measurement.
-    pub right: Vec<u16>,
-    /// Six neighbours for each measurement.
-    pub neighbours: Vec<u16>,
-    /// Cartesian positions, three coordinates for each measurement.
-    pub cartesian: Vec<f32>,
-}
-
-impl Index {
-    /// Lists as long as so many measurements ask. More than are allowed get empty ones: a load refuses the sizes before it looks at a list.
-    fn room(m: usize) -> Index {
-        let m = if m <= 16384 { m } else { 0 };
-        Index {
-            lookup: Lookup::default(),
-            left: vec![ABSENT; m],
-            right: vec![ABSENT; m],
-            neighbours: vec![ABSENT; 6 * m],
-            cartesian: vec![0.0; 3 * m],
-        }
-    }
-
-    fn tree(&self) -> ffi::Tree<'_> {
-        ffi::Tree { positions: &self.cartesian, left: &self.left, right: &self.right }
-    }
 }
 
 /// A head-related set made ready for queries.
@@ -163,12 +139,14 @@ impl<R: AsRef<[f32]>, D: AsRef<[f32]>> Set<R, D> {
         let Description { kind, angle_step, radius_step, rate, .. } = described;
         let told = ffi::load(kind.0, described.sizes(), positions, responses.as_ref(), angle_step, radius_step, rate, work);
         said(told.reason, told.place)?;
-        index.lookup = told.lookup;
+        index.lookup = told.lookup.into();
         Ok(Set::with_index(described, index, responses, delays))
     }
 
-    /// A set over an index that was kept from an earlier load. Nothing is checked here: each query checks what it needs. Of the description
-    /// the sizes and the rate are used, not the kind and the steps, which the index was made with.
+    /// A set over an index that was kept from an earlier load. It cannot fail, since nothing is checked here: the archive checks at each query
+    /// what that goes by, the sizes, the rate and the lengths of lists, and refuses then. The same holds for what later versions let a set
+    /// declare, such as a shape of its delays. Of the description the sizes and the rate are used, not the kind and the steps, which the
+    /// index was made with.
     pub fn with_index(described: Description, index: Index, responses: R, delays: D) -> Set<R, D> {
         Set { described, index, responses, delays }
     }
@@ -207,19 +185,16 @@ impl<R: AsRef<[f32]>, D: AsRef<[f32]>> Set<R, D> {
         ffi::Sound { responses: self.responses(), delays: self.delays(), rate: self.rate() }
     }
 
-    /// The number of the measurement nearest to a point, which is first drawn to the measured radii. Refused 2, 3, 7, 9; over a loaded
-    /// set only 7.
+    /// The measurement nearest to a point, which is first drawn to the measured radii. Refused 2, 3, 7, 9; over a loaded set only 7.
     ///
     /// Stack: 2 KiB, and 352 bytes for each level of the tree ([`crate::stack`]); 5.6 MiB are enough for any set.
-    pub fn find(&self, at: Coordinates) -> Result<usize, Refusal> {
-        let f = ffi::find(self.described.sizes(), self.index.lookup, self.index.tree(), at);
-        said(f.reason, f.place).map(|()| usize::from(f.number))
+    pub fn find(&self, at: Coordinates) -> Result<Found, Refusal> {
+        found(ffi::find(self.described.sizes(), self.index.lookup.into(), self.index.tree(), at))
     }
 
     /// The same, and the point is left as it was drawn to the measured radii; refused, it stays. Stack: as [`Set::find`].
-    pub fn find_mut(&self, at: &mut Coordinates) -> Result<usize, Refusal> {
-        let f = ffi::find_mut(self.described.sizes(), self.index.lookup, self.index.tree(), at);
-        said(f.reason, f.place).map(|()| usize::from(f.number))
+    pub fn find_mut(&self, at: &mut Coordinates) -> Result<Found, Refusal> {
+        found(ffi::find_mut(self.described.sizes(), self.index.lookup.into(), self.index.tree(), at))
     }
 
     /// The filter at a point: the nearest measurement itself where the point is on it, else a blend with the closer neighbour in each
@@ -229,12 +204,14 @@ impl<R: AsRef<[f32]>, D: AsRef<[f32]>> Set<R, D> {
     /// Stack: 2 KiB, and 352 bytes for each level of the tree ([`crate::stack`]); 5.6 MiB are enough for any set.
     pub fn filter(&self, at: Coordinates, left: &mut [f32], right: &mut [f32]) -> Result<Filtered, Refusal> {
         let Index { lookup, neighbours, .. } = &self.index;
-        filtered(ffi::filter(self.described.sizes(), *lookup, self.index.tree(), neighbours, self.sound(), at, left, right))
+        let lookup = (*lookup).into();
+        filtered(ffi::filter(self.described.sizes(), lookup, self.index.tree(), neighbours, self.sound(), at, left, right))
     }
 
     /// The filter of the nearest measurement as it is: always exact. Outputs, refusals and stack are those of [`Set::filter`].
     pub fn filter_nointerp(&self, at: Coordinates, left: &mut [f32], right: &mut [f32]) -> Result<Filtered, Refusal> {
-        filtered(ffi::filter_nointerp(self.described.sizes(), self.index.lookup, self.index.tree(), self.sound(), at, left, right))
+        let lookup = self.index.lookup.into();
+        filtered(ffi::filter_nointerp(self.described.sizes(), lookup, self.index.tree(), self.sound(), at, left, right))
     }
 
     /// The filter of a measurement: always exact. Refused 2, 3, 6, 8, over a loaded set only 8; the outputs are those of [`Set::filter`].
@@ -254,15 +231,20 @@ impl<R: AsRef<[f32]>, D: AsRef<[f32]>> Set<R, D> {
         view(responses, ffi::right_response(self.described.sizes(), responses, number))
     }
 
-    /// The Cartesian position of a measurement, converted by the load if the set is spherical. Refused 3, 8, over a loaded set only 8.
+    /// The Cartesian position of a measurement, converted by the load if the set is spherical. Refused 2, 3, 8, over a loaded set only 8.
     pub fn position(&self, number: usize) -> Result<Coordinates, Refusal> {
+        // The archive has no call for it. Which sizes are allowed it says in any call by number, before it looks at a list.
+        let judged = ffi::left_response(self.described.sizes(), &[], number);
+        if judged.reason == Reason::Sizes.number() {
+            return Err(Refusal::new(Reason::Sizes, judged.place));
+        }
         let (triplets, m) = (self.index.cartesian.chunks_exact(3), self.described.m);
         if triplets.len() < m {
-            return Err(Refusal { reason: Reason::Lists, place: 0 });
+            return Err(Refusal::new(Reason::Lists, 0));
         }
         match triplets.take(m).nth(number) {
             Some(&[x, y, z]) => Ok([x, y, z]),
-            _ => Err(Refusal { reason: Reason::Number, place: number }),
+            _ => Err(Refusal::new(Reason::Number, number)),
         }
     }
 
@@ -293,5 +275,5 @@ impl<R: AsRef<[f32]>, D: AsRef<[f32]>> Set<R, D> {
 fn view(responses: &[f32], part: ffi::Part) -> Result<&[f32], Refusal> {
     said(part.reason, part.place)?;
     let taps = responses.get(part.start..).and_then(|from| from.get(..part.count));
-    taps.ok_or(Refusal { reason: Reason::Lists, place: 0 })
+    taps.ok_or(Refusal::new(Reason::Lists, 0))
 }

@@ -1,9 +1,16 @@
 // SPDX-License-Identifier: MIT OR Apache-2.0
 //! The bare tree.
 use crate::ffi::{self, BoundingBox, Coordinates};
+use crate::index::ABSENT;
 use crate::refusal::{said, Refusal};
 
-const ABSENT: u16 = 65535;
+/// What [`Tree::nearest`] answers. Later versions tell more: a pattern ends in `..`, and who means the number alone compares that.
+#[derive(Clone, Copy, Debug, PartialEq, Eq)]
+#[non_exhaustive]
+pub struct Nearest {
+    /// The number that is kept with the point.
+    pub number: u16,
+}
 
 /// Points with a number each, of any f32, and the nearest of them: up to 16384. The number is the host's own, 16 bits that are kept with the
 /// point: several points may have the same.
@@ -15,7 +22,8 @@ const ABSENT: u16 = 65535;
 /// assert_eq!(tree.nearest([0.0, 0.0, 0.0])?, None);
 /// tree.insert([10.0, 0.0, 0.0], 7)?;
 /// tree.insert([1.0, 0.0, 0.0], 8)?;
-/// assert_eq!(tree.nearest([0.0, 0.0, 0.0])?, Some(8));
+/// let nearest = tree.nearest([0.0, 0.0, 0.0])?.expect("the tree is not empty");
+/// assert_eq!(nearest.number, 8);
 /// # Ok::<(), sofa::Refusal>(())
 /// ```
 ///
@@ -66,12 +74,12 @@ impl Tree {
         self.numbers.resize(count, ABSENT);
     }
 
-    /// The number of the nearest point, by document 01's rule for ties; `None` where the tree is empty. A NaN coordinate gives the first
-    /// point's number. A tree that was filled by [`Tree::insert`] refuses nothing.
-    pub fn nearest(&self, query: Coordinates) -> Result<Option<u16>, Refusal> {
+    /// The nearest point, by document 01's rule for ties; `None` where the tree is empty. A NaN coordinate gives the first point. A tree that
+    /// was filled by [`Tree::insert`] refuses nothing.
+    pub fn nearest(&self, query: Coordinates) -> Result<Option<Nearest>, Refusal> {
         let lists = ffi::Tree { positions: &self.positions, left: &self.left, right: &self.right };
         let found = ffi::tree_nearest(self.len(), self.bounds, lists, &self.numbers, query);
         said(found.reason, found.place)?;
-        Ok(if self.is_empty() { None } else { Some(found.number) })
+        Ok(if self.is_empty() { None } else { Some(Nearest { number: found.number }) })
     }
 }

@@ -12,10 +12,11 @@ fn a_chain_of_all() {
         right: (1..M as u16).chain([65535]).collect(),
         neighbours: vec![65535; 6 * M],
         cartesian: (0..M).flat_map(|i| [i as f32; 3]).collect(),
+        ..Index::default()
     };
     let described = Description { m: M, n: 0, rate: 48000.0, ..Description::default() };
     let set: Set<Vec<f32>> = Set::with_index(described, index, vec![], vec![]);
-    let ask = move || (set.find([16000.25; 3]), set.filter([16000.25; 3], &mut [], &mut []).is_ok());
+    let ask = move || (set.find([16000.25; 3]).map(|f| f.number), set.filter([16000.25; 3], &mut [], &mut []).is_ok());
     let asked = std::thread::Builder::new().stack_size(stack::ANY + OWN).spawn(ask).unwrap();
     assert_eq!(asked.join().unwrap(), (Ok(16000), true));
 }

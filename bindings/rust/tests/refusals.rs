@@ -74,6 +74,7 @@ fn reason_2_the_sizes() {
         assert_eq!(told(set.left_response(0)), (Reason::Sizes, 0));
         assert_eq!(told(set.right_response(0)), (Reason::Sizes, 0));
         assert_eq!(told(set.neighbors_of(0)), (Reason::Sizes, 0));
+        assert_eq!(told(set.position(0)), (Reason::Sizes, 0));
     }
 }
 
@@ -93,7 +94,7 @@ fn reason_3_the_lists() {
         assert_eq!((left, right), ([0.0; 2], [0.0; 1]));
         assert_eq!(set.find([1.0, 0.0, 0.0]).is_err(), which < 3); // it is given no neighbours
         assert_eq!(set.neighbors_of(0).is_err(), which == 3); // it is given nothing else
-        assert_eq!(set.position(1).err(), Some(Refusal { reason: Reason::Lists, place: 0 }).filter(|_| which == 2));
+        assert_eq!(set.position(1).err(), Some(Refusal::new(Reason::Lists, 0)).filter(|_| which == 2));
     }
 }
 
@@ -224,7 +225,7 @@ fn reason_9_a_link() {
 /// Every reason prints its number and words of its own.
 #[test]
 fn refusals_in_words() {
-    let said = |reason, place| Refusal { reason, place }.to_string();
+    let said = |reason, place| Refusal::new(reason, place).to_string();
     let all = [
         said(Reason::Kind, 7),
         said(Reason::Sizes, 0),
@@ -241,7 +242,7 @@ fn refusals_in_words() {
         assert!(words.contains(&format!("(refusal {}, place ", i + 1)), "{words}");
         assert!(words.len() > 40 && all.iter().filter(|w| *w == words).count() == 1);
     }
-    let boxed: Box<dyn std::error::Error> = Box::new(Refusal { reason: Reason::Rate, place: 0 });
+    let boxed: Box<dyn std::error::Error> = Box::new(Refusal::new(Reason::Rate, 0));
     assert_eq!(boxed.to_string(), "the rate is not allowed: 1000 to 384000 (refusal 6, place 0)");
 }
 
@@ -254,7 +255,7 @@ fn numbers_are_reasons() {
         assert_eq!(reason.number(), number);
         assert_eq!(matches!(reason, Reason::Unknown { .. }), number > 9);
     }
-    let newer = Refusal { reason: Reason::of(4711).unwrap(), place: 3 };
+    let newer = Refusal::new(Reason::of(4711).unwrap(), 3);
     assert_eq!(newer.to_string(), "a reason that this version has no words for (refusal 4711, place 3)");
 }
 
@@ -273,7 +274,7 @@ fn the_greatest_set() {
             continue;
         }
         let set = loaded.unwrap();
-        let at = |number: usize| set.position(number).unwrap();
-        assert_eq!((set.find(at(0)), set.find(at(m - 1))), (Ok(0), Ok(16383)));
+        let found = |number: usize| set.find(set.position(number).unwrap()).unwrap().number;
+        assert_eq!((found(0), found(m - 1)), (0, 16383));
     }
 }

@@ -1,6 +1,6 @@
 // SPDX-License-Identifier: MIT OR Apache-2.0
 //! Known answers: a load, a blended, an exact and a refused query, and the calls by number.
-use sofa::{Delays, Description, Filtered, Kind, Neighbors, Reason, Refusal, Seconds, Set, Tree};
+use sofa::{Description, Filtered, Kind, Neighbors, Reason, Refusal, Seconds, Set, Tree};
 use std::sync::Arc;
 
 const POSITIONS: [f32; 6] = [1.0, 0.0, 0.0, -1.0, 0.0, 0.0];
@@ -15,13 +15,17 @@ fn two() -> Set<&'static [f32]> {
     Set::load(described(Kind::CARTESIAN, 2, 1), &POSITIONS, &RESPONSES[..], &DELAYS[..]).unwrap()
 }
 
-fn both(seconds: f32) -> Delays {
-    Delays { left: Seconds(seconds), right: Seconds(seconds) }
+fn both(seconds: f32) -> [Seconds; 2] {
+    [Seconds(seconds); 2]
 }
 
 /// Whether it is exact, its points, its delays.
-fn parts(told: Result<Filtered, Refusal>) -> Result<(bool, usize, Delays), Refusal> {
-    told.map(|f| (f.is_exact(), f.points(), f.delays()))
+fn parts(told: Result<Filtered, Refusal>) -> Result<(bool, usize, [Seconds; 2]), Refusal> {
+    told.map(|f| (f.is_exact(), f.points(), [f.delays().left, f.delays().right]))
+}
+
+fn six(n: Neighbors) -> [Option<usize>; 6] {
+    [n.phi_plus, n.phi_minus, n.theta_plus, n.theta_minus, n.radius_plus, n.radius_minus]
 }
 
 /// The worked case of document 01's query program.
@@ -59,8 +63,8 @@ fn a_blend_of_two() {
     let mut middle = [22.5, 0.0, 1.0];
     sofa::to_cartesian(&mut middle).unwrap();
     let (mut left, mut right) = ([9.0; 2], [9.0; 2]);
-    let told = set.filter(middle, &mut left, &mut right).unwrap();
-    assert_eq!((told.points(), told.delays()), (2, both(0.0)));
+    let told = set.filter(middle, &mut left, &mut right);
+    assert_eq!(parts(told), Ok((false, 2, both(0.0))));
     let near = |a: f32, b: f32| (a - b).abs() < 1e-4;
     assert!(near(left[0], 4.0) && near(left[1], 5.0) && near(right[0], 6.0) && near(right[1], 7.0), "{left:?} {right:?}");
     let plain = set.filter_nointerp(middle, &mut left, &mut right);
@@ -71,9 +75,9 @@ fn a_blend_of_two() {
 #[test]
 fn nearest_and_drawn_to_the_radii() {
     let set = two();
-    assert_eq!(set.find([-3.0, 0.5, 0.0]), Ok(1));
+    assert_eq!(set.find([-3.0, 0.5, 0.0]).unwrap().number, 1);
     let mut at = [4.0, 0.0, 0.0];
-    assert_eq!(set.find_mut(&mut at), Ok(0));
+    assert_eq!(set.find_mut(&mut at).unwrap().number, 0);
     assert_eq!(at, [1.0, 0.0, 0.0]);
     let mut bad = [0.5, 0.5, f32::INFINITY];
     assert_eq!(set.find_mut(&mut bad).unwrap_err().place, 2);
@@ -99,12 +103,10 @@ fn by_number() {
     assert_eq!(parts(set.filter_number(0, &mut left, &mut right)), Ok((true, 1, both(0.0078125))));
     assert_eq!((left, right), ([0.5], [0.25]));
     assert_eq!(set.max_delay(), Ok(Seconds(0.0078125)));
-    let alone = Neighbors { phi_plus: None, phi_minus: None, theta_plus: None, theta_minus: None, radius_plus: None, radius_minus: None };
-    assert_eq!(set.neighbors_of(0), Ok(alone));
+    assert_eq!(set.neighbors_of(0).map(six), Ok([None; 6]));
     let wide = Description { angle_step: 5.0, ..described(Kind::SPHERICAL, 3, 0) };
     let circle = Set::load(wide, &[0.0, 0.0, 1.0, 40.0, 0.0, 1.0, 320.0, 0.0, 1.0], [], []).unwrap();
-    let around = circle.neighbors_of(0).unwrap();
-    assert_eq!((around.phi_plus, around.phi_minus, around.radius_plus), (Some(1), Some(2), None));
+    assert_eq!(circle.neighbors_of(0).map(six), Ok([Some(1), Some(2), None, None, None, None]));
 }
 
 /// What one call answers as a number the others take.
@@ -113,13 +115,13 @@ fn one_type_of_number() {
     let wide = Description { angle_step: 5.0, ..described(Kind::SPHERICAL, 3, 1) };
     let circle = Set::load(wide, &[0.0, 0.0, 1.0, 40.0, 0.0, 1.0, 320.0, 0.0, 1.0], [0.0, 1.0, 2.0, 3.0, 4.0, 5.0], []).unwrap();
     let mut at = [3.0, 0.1, 0.0];
-    let nearest = circle.find(at).unwrap();
-    assert_eq!(circle.find_mut(&mut at), Ok(nearest));
+    let nearest = circle.find(at).unwrap().number;
+    assert_eq!(circle.find_mut(&mut at).unwrap().number, nearest);
     let beside = circle.neighbors_of(nearest).unwrap().phi_minus.unwrap();
     assert_eq!((nearest, beside), (0, 2));
     assert_eq!((circle.left_response(beside), circle.right_response(beside)), (Ok(&[4.0][..]), Ok(&[5.0][..])));
     assert_eq!(circle.position(nearest), Ok([1.0, 0.0, 0.0]));
-    assert_eq!(circle.find(circle.position(beside).unwrap()), Ok(beside));
+    assert_eq!(circle.find(circle.position(beside).unwrap()).unwrap().number, beside);
     assert!(circle.filter_number(beside, &mut [0.0], &mut [0.0]).is_ok());
 }
 
@@ -149,7 +151,7 @@ fn what_is_not_described() {
     ];
     assert!(Set::load(given, &POSITIONS, RESPONSES, DELAYS).is_ok());
     for (reason, place, described) in without {
-        assert_eq!(Set::load(described, &POSITIONS, RESPONSES, DELAYS).unwrap_err(), Refusal { reason, place });
+        assert_eq!(Set::load(described, &POSITIONS, RESPONSES, DELAYS).unwrap_err(), Refusal::new(reason, place));
     }
 }
 
@@ -173,7 +175,7 @@ fn sets_are_shared_between_threads() {
     std::thread::scope(|scope| {
         for (number, x) in [1.0, -1.0].into_iter().enumerate() {
             let set = &set;
-            scope.spawn(move || assert_eq!(set.find([x, 0.0, 0.0]), Ok(number)));
+            scope.spawn(move || assert_eq!(set.find([x, 0.0, 0.0]).unwrap().number, number));
         }
     });
 }
@@ -188,15 +190,16 @@ fn bare_trees() {
         }
         tree
     };
-    assert_eq!(filled(&[]).nearest([0.0; 3]), Ok(None));
+    let number = |tree: &Tree, at| tree.nearest(at).unwrap().map(|n| n.number);
+    assert_eq!(number(&filled(&[]), [0.0; 3]), None);
     let two = filled(&[([0.0; 3], 0), ([2.0, 0.0, 0.0], 1)]);
-    assert_eq!(two.nearest([1.0, 0.0, 0.0]), Ok(Some(0)));
-    assert_eq!(two.nearest([f32::NAN, 0.0, 0.0]), Ok(Some(0)));
-    assert_eq!(filled(&[([2.0, 0.0, 0.0], 1), ([0.0; 3], 0)]).nearest([1.0, 0.0, 0.0]), Ok(Some(1)));
+    assert_eq!(number(&two, [1.0, 0.0, 0.0]), Some(0));
+    assert_eq!(number(&two, [f32::NAN, 0.0, 0.0]), Some(0));
+    assert_eq!(number(&filled(&[([2.0, 0.0, 0.0], 1), ([0.0; 3], 0)]), [1.0, 0.0, 0.0]), Some(1));
     let three = filled(&[([10.0, 0.0, 0.0], 0), ([1.0, 0.0, 0.0], 1), ([-1.0, 0.0, 0.0], 2)]);
-    assert_eq!(three.nearest([0.0; 3]), Ok(Some(1)));
-    assert_eq!(filled(&[([0.0; 3], 0), ([0.0, 1.0, 0.0], 1)]).nearest([0.0, 1.0, 0.0]), Ok(Some(1)));
-    assert_eq!(filled(&[([3e38, 0.0, 0.0], 0), ([1e38, 0.0, 0.0], 1)]).nearest([-3e38, 0.0, 0.0]), Ok(Some(0)));
+    assert_eq!(number(&three, [0.0; 3]), Some(1));
+    assert_eq!(number(&filled(&[([0.0; 3], 0), ([0.0, 1.0, 0.0], 1)]), [0.0, 1.0, 0.0]), Some(1));
+    assert_eq!(number(&filled(&[([3e38, 0.0, 0.0], 0), ([1e38, 0.0, 0.0], 1)]), [-3e38, 0.0, 0.0]), Some(0));
 }
 
 #[test]
@@ -209,4 +212,15 @@ fn numbers() {
     assert_eq!(sofa::to_spherical(&mut values), Ok(()));
     assert_eq!(values[..3], [90.0, 0.0, 2.0]);
     assert!(values[3].is_nan());
+}
+
+/// Straight up and down are the ends of an answered elevation; a given one beyond them goes on over the top.
+#[test]
+fn elevations() {
+    let mut ends = [0.0, 0.0, 2.0, 0.0, 0.0, -2.0];
+    sofa::to_spherical(&mut ends).unwrap();
+    assert_eq!((ends[1], ends[4]), (90.0, -90.0));
+    let mut over = [0.0, 100.0, 1.0, 180.0, 80.0, 1.0];
+    sofa::to_cartesian(&mut over).unwrap();
+    assert!((0..3).all(|axis| (over[axis] - over[axis + 3]).abs() < 1e-6) && over[0] < -0.1, "{over:?}");
 }
