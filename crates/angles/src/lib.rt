@@ -23,7 +23,9 @@ ghost use Rattle.angles.specs.Says.{sinOf, cosOf, atan2Of, sineSays, cos
 
 // One level of the nested form: 1 - t / c * h, where 2^30 stands for 1.
 fn level(t: u64, h: u64, c: u64) -> u64
-    requires { ⌜ (t ≤ 1073741824) × ((h ≤ 1073741824) × (1 ≤ c)) ⌝ }
+    requires { ⌜ (t ≤ 1073741824)
+        × (h ≤ 1073741824)
+        × (1 ≤ c) ⌝ }
     ensures { λ r. ⌜ r ≡ 1073741824 - t * h / 1073741824 / c ⌝ }
 {
     1073741824 - t * h / 1073741824 / c
@@ -64,7 +66,8 @@ fn cos_fix(a: u64) -> u64
 
 // |r| in units of 2^-34.
 fn rest_of(q: u64, x: u64) -> u64
-    requires { ⌜ (q ≤ 20) × (x ≤ 17592186044416) ⌝ }
+    requires { ⌜ (q ≤ 20)
+        × (x ≤ 17592186044416) ⌝ }
     ensures { λ r. ⌜ r ≡ rest q x ⌝ }
 {
     let b = (q + q % 2) * 226375608064910088 / 1024;
@@ -295,7 +298,8 @@ fn arc_guess(back: bool, p: f32, s: f32) -> f32
 
 // The size of ± u - ± v.
 fn gap(a: bool, u: u64, b: bool, v: u64) -> u64
-    requires { ⌜ (u ≤ 6917529027641081856) × (v ≤ 6917529027641081856) ⌝ }
+    requires { ⌜ (u ≤ 6917529027641081856)
+        × (v ≤ 6917529027641081856) ⌝ }
     ensures { λ r. ⌜ r ≡ minusSize a u b v ⌝ }
 {
     if sines::differ(a, b) {
@@ -307,7 +311,8 @@ fn gap(a: bool, u: u64, b: bool, v: u64) -> u64
 
 // Whether ± u + ± v is at least 2^60.
 fn ahead(a: bool, u: u64, b: bool, v: u64) -> bool
-    requires { ⌜ (u ≤ 6917529027641081856) × (v ≤ 6917529027641081856) ⌝ }
+    requires { ⌜ (u ≤ 6917529027641081856)
+        × (v ≤ 6917529027641081856) ⌝ }
     ensures { λ r. ⌜ r ≡ plusOver a u b v ⌝ }
 {
     if a {
@@ -327,7 +332,10 @@ fn ahead(a: bool, u: u64, b: bool, v: u64) -> bool
 
 // Whether the direction (± vc, ± vs) lies along (x, y), in units of 2^-31.
 fn on_line(back: bool, py: u64, px: u64, ns: bool, vs: u64, nc: bool, vc: u64) -> bool
-    requires { ⌜ (py ≤ 2147484168) × ((px ≤ 2147484168) × ((vs ≤ 2147483648) × (vc ≤ 2147483648))) ⌝ }
+    requires { ⌜ (py ≤ 2147484168)
+        × (px ≤ 2147484168)
+        × (vs ≤ 2147483648)
+        × (vc ≤ 2147483648) ⌝ }
     ensures { λ r. ⌜ r ≡ lineTest back py px ns vs nc vc ⌝ }
 {
     if gap(nc, py * vc, sines::differ(back, ns), px * vs) <= 8796093022208 {
@@ -339,7 +347,10 @@ fn on_line(back: bool, py: u64, px: u64, ns: bool, vs: u64, nc: bool, vc: u64) -
 
 // By k mod 4, for the sine s and the cosine c of |r|.
 fn on_turn(k: u64, down: bool, back: bool, py: u64, px: u64, s: u64, c: u64) -> bool
-    requires { ⌜ (py ≤ 2147484168) × ((px ≤ 2147484168) × ((s ≤ 2147483648) × (c ≤ 2147483648))) ⌝ }
+    requires { ⌜ (py ≤ 2147484168)
+        × (px ≤ 2147484168)
+        × (s ≤ 2147483648)
+        × (c ≤ 2147483648) ⌝ }
     ensures { λ r. ⌜ r ≡ turnTest k down back py px s c ⌝ }
 {
     match k {
@@ -352,7 +363,9 @@ fn on_turn(k: u64, down: bool, back: bool, py: u64, px: u64, s: u64, c: u64) -> 
 
 // The angle x / 2^40.
 fn on_grid(back: bool, py: u64, px: u64, x: u64) -> bool
-    requires { ⌜ (py ≤ 2147484168) × ((px ≤ 2147484168) × (x ≤ 17592186044416)) ⌝ }
+    requires { ⌜ (py ≤ 2147484168)
+        × (px ≤ 2147484168)
+        × (x ≤ 17592186044416) ⌝ }
     ensures { λ r. ⌜ r ≡ gridTest back py px x ⌝ }
 {
     let q = sines::eighth(x);
@@ -370,7 +383,9 @@ fn on_grid(back: bool, py: u64, px: u64, x: u64) -> bool
 
 // Whether the angle c, not below zero, is certified for (x, y), |y| and |x| being py and px.
 fn certified(back: bool, py: u64, px: u64, c: f32) -> bool
-    requires { ⌜ (py ≤ 2147484168) × ((px ≤ 2147484168) × T (not (lt c plusZero))) ⌝ }
+    requires { ⌜ (py ≤ 2147484168)
+        × (px ≤ 2147484168)
+        × T (not (lt c plusZero)) ⌝ }
     ensures { λ r. ⌜ r ≡ certOf back py px c ⌝ }
 {
     if c <= 3.1415927410125732421875 {

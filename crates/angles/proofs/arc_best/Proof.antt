@@ -29,7 +29,7 @@ ratio-of-requires c κs = let w = flat-of (c .before .before .before .before .be
 
 certified-requires : tie.Need-certified-requires
 unfolding ofBits
-certified-requires c κs = (subst (λ (z : ℕ). z ≤ 2147484168) (sym (c .ratio-of .ensures)) ((flat-of (c .before .before .before .before .before .before .args .y) (c .before .before .before .before .before .before .args .x) (c .before .before .before .before .before .mag-of .result) (c .before .before .before .before .mag-of2 .result) (c .before .before .before .before .before .before .pre) (c .before .before .before .before .before .mag-of .ensures) (c .before .before .before .before .mag-of2 .ensures) (c .before .if1 .taken)) .top), (lit≤ tt, mag-not (c .before .before .before .arc-guess .result) (c .before .before .mag-of3 .result) (c .before .before .mag-of3 .ensures)))
+certified-requires c κs = (subst (λ (z : ℕ). z ≤ 2147484168) (sym (c .ratio-of .ensures)) ((flat-of (c .before .before .before .before .before .before .args .y) (c .before .before .before .before .before .before .args .x) (c .before .before .before .before .before .mag-of .result) (c .before .before .before .before .mag-of2 .result) (c .before .before .before .before .before .before .pre) (c .before .before .before .before .before .mag-of .ensures) (c .before .before .before .before .mag-of2 .ensures) (c .before .if1 .taken)) .top), lit≤ tt, mag-not (c .before .before .before .arc-guess .result) (c .before .before .mag-of3 .result) (c .before .before .mag-of3 .ensures))
 
 arc-requires : tie.Need-arc-requires
 arc-requires c κs = search needs
@@ -52,7 +52,7 @@ ratio-of-requires-2 c κs = let w = steep-of (c .before .before .before .before 
 
 certified-requires-2 : tie.Need-certified-requires-2
 unfolding ofBits
-certified-requires-2 c κs = (lit≤ tt, (subst (λ (z : ℕ). z ≤ 2147484168) (sym (c .ratio-of2 .ensures)) ((steep-of (c .before .before .before .before .before .before .args .y) (c .before .before .before .before .before .before .args .x) (c .before .before .before .before .before .mag-of .result) (c .before .before .before .before .mag-of2 .result) (c .before .before .before .before .before .before .pre) (c .before .before .before .before .before .mag-of .ensures) (c .before .before .before .before .mag-of2 .ensures) (c .before .if1 .left)) .top), mag-not (c .before .before .before .arc-guess .result) (c .before .before .mag-of3 .result) (c .before .before .mag-of3 .ensures)))
+certified-requires-2 c κs = (lit≤ tt, subst (λ (z : ℕ). z ≤ 2147484168) (sym (c .ratio-of2 .ensures)) ((steep-of (c .before .before .before .before .before .before .args .y) (c .before .before .before .before .before .before .args .x) (c .before .before .before .before .before .mag-of .result) (c .before .before .before .before .mag-of2 .result) (c .before .before .before .before .before .before .pre) (c .before .before .before .before .before .mag-of .ensures) (c .before .before .before .before .mag-of2 .ensures) (c .before .if1 .left)) .top), mag-not (c .before .before .before .arc-guess .result) (c .before .before .mag-of3 .result) (c .before .before .mag-of3 .ensures))
 
 arc-requires-2 : tie.Need-arc-requires-2
 arc-requires-2 c κs = search needs
