@@ -485,41 +485,41 @@ pub fn atan2(y: f32, x: f32) -> f32
 }
 
 // What a single angle call answers: the value, or document 01's number 7 and the argument's place.
-pub enum Answer {
+pub enum AngleAnswer {
     Value(f32),
     Refused(u32, usize),
 }
 
-pub fn sine(x: f32) -> Answer
+pub fn sine(x: f32) -> AngleAnswer
     ensures { λ r. ⌜ r ≡ sineSays x ⌝ }
 {
     if sines::in_range(x) {
-        Answer::Value(sines::sin_of(x))
+        AngleAnswer::Value(sines::sin_of(x))
     } else {
-        Answer::Refused(7, 0)
+        AngleAnswer::Refused(7, 0)
     }
 }
 
-pub fn cosine(x: f32) -> Answer
+pub fn cosine(x: f32) -> AngleAnswer
     ensures { λ r. ⌜ r ≡ cosineSays x ⌝ }
 {
     if sines::in_range(x) {
-        Answer::Value(sines::cos_of(x))
+        AngleAnswer::Value(sines::cos_of(x))
     } else {
-        Answer::Refused(7, 0)
+        AngleAnswer::Refused(7, 0)
     }
 }
 
-pub fn arctangent(y: f32, x: f32) -> Answer
+pub fn arctangent(y: f32, x: f32) -> AngleAnswer
     ensures { λ r. ⌜ r ≡ arctanSays y x ⌝ }
 {
     if floats::is_finite(y) {
         if floats::is_finite(x) {
-            Answer::Value(atan_of(y, x))
+            AngleAnswer::Value(atan_of(y, x))
         } else {
-            Answer::Refused(7, 1)
+            AngleAnswer::Refused(7, 1)
         }
     } else {
-        Answer::Refused(7, 0)
+        AngleAnswer::Refused(7, 0)
     }
 }

@@ -20,7 +20,7 @@ use Rattle.points.specs.Points.{pointAt}
 use Rattle.root.specs.Root.{rootOf}
 use Rattle.root.proofs.Laws.{rootOf-positive}
 use Rattle.sines.specs.Sines.{plusZero, sixteen, inRange, sineSteps, cosineSteps}
-use Rattle.angles.specs.declared.Answer.the-variants.{Value, Refused}
+use Rattle.angles.specs.declared.AngleAnswer.the-variants.{Value, Refused}
 use Rattle.angles.specs.Arc.{signedPi32, arctanSteps}
 use Rattle.angles.specs.Says.{sinOf, cosOf, atan2Of, sineSays, cosineSays, arctanSays}
 use Rattle.angle_laws.specs.Angle.{S, C, closeTo}
