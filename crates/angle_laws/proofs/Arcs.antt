@@ -32,14 +32,14 @@ finish sy my ey sx mx ex a N w l = subst (λ (z : Float). IsArc (fin sy my ey) (
     go true l = (l .0, (l .1, (w .top, refl)))
     go false l = (l .0, (l .1, (w .top, refl)))
 
--- the sign of a zero x does not matter
-none : (dy p : ℕ) → 0 * dy * p ≡ 0
-none dy p = omega arith
+pub zero-times : (a b : ℕ) → 0 * a * b ≡ 0
+zero-times a b = omega arith
 
+-- the sign of a zero x does not matter
 turn-zero : (sy : Bool) (ny dy dx : ℕ) (s c : Ratio) → Line sy ny dy false 0 dx s c → Line sy ny dy true 0 dx s c
 turn-zero sy ny dy dx s c l = (
-  subst (λ (z : ℕ). z * 262144 ≤ max (0 * dy) (ny * dx) * (c .bot * s .bot)) (any (xor sy (c .neg)) (xor false (s .neg)) (xor true (s .neg)) (ny * dx * (c .top * s .bot)) (0 * dy * (s .top * c .bot)) (none dy (s .top * c .bot))) (l .0),
-  fwd (c .neg) (xor sy (s .neg)) (0 * dy * (c .top * s .bot)) (ny * dx * (s .top * c .bot)) (none dy (c .top * s .bot)) (l .1),
+  subst (λ (z : ℕ). z * 262144 ≤ max (0 * dy) (ny * dx) * (c .bot * s .bot)) (any (xor sy (c .neg)) (xor false (s .neg)) (xor true (s .neg)) (ny * dx * (c .top * s .bot)) (0 * dy * (s .top * c .bot)) (zero-times dy (s .top * c .bot))) (l .0),
+  fwd (c .neg) (xor sy (s .neg)) (0 * dy * (c .top * s .bot)) (ny * dx * (s .top * c .bot)) (zero-times dy (c .top * s .bot)) (l .1),
 )
   where
     eqs : (u v : ℕ) → v ≡ 0 → dist u v ≡ u + v
@@ -113,28 +113,35 @@ pub any-sign : (sy : Bool) (ny dy : ℕ) (sx : Bool) (u dx : ℕ) (s c : Ratio) 
 any-sign sy ny dy false u dx s c l = l
 any-sign sy ny dy true u dx s c l = subst (λ (z : ℕ). Line sy ny dy true z dx s c) (sym (zero-mul u)) (turn-zero sy ny dy dx s c (subst (λ (z : ℕ). Line sy ny dy false z dx s c) (zero-mul u) l))
 
+-- x zero: its ratio to y
+pub zero-over : (m : ℕ) (e d : ℤ) → 0 * up d * down e ≤ m * up e * down d
+zero-over m e d = le-trans (le-of-eq (zero-times (up d) (down e))) zero-le
+
+pub zero-quotient : (m : ℕ) (e d : ℤ) → 0 < m → Quotient (mul binary32 (div binary32 plusZero (fin false m e)) half-turn) (0 * up d * down e) (m * up e * down d)
+zero-quotient m e d mp =
+    let a = 0 * up d * down e in
+    let c = m * up e * down d in
+    let cp : 0 < c = mul-pos (mul-pos mp (up-pos e)) (down-pos d) in
+    let same : div binary32 plusZero (fin false m e) ≡ round binary32 false a c =
+    div-fin 0 (pos 0) m e mp ∙ round-same binary32 false (0 * down e) (m * up e * 1) a c (mul-pos (mul-pos mp (up-pos e)) (lit< tt)) cp (both (down e) c (up d) (m * up e)) in
+    subst (λ (z : Float). Quotient (mul binary32 z half-turn) a c) (sym same) (quotient a c cp (zero-over m e d))
+  where
+    both : (d c u n : ℕ) → 0 * d * c ≡ 0 * u * d * (n * 1)
+    both d c u n = omega arith
+
 module _ (sy : Bool) (my : ℕ) (ey : ℤ) (sx : Bool) (ex : ℤ) (yp : 0 < my) where
   at-zero : IsArc (fin sy my ey) (fin sx 0 ex) (cond sy (neg (angleOf 1 (seek 24 (ratioOf plusZero (fin false my ey)) 0 13176795))) (angleOf 1 (seek 24 (ratioOf plusZero (fin false my ey)) 0 13176795)))
   unfolding ratioOf
   at-zero =
-      let y = mul binary32 (div binary32 plusZero (fin false my ey)) half-turn in
       let a = 0 * up ex * down ey in
       let c = my * up ey * down ex in
       let cp : 0 < c = mul-pos (mul-pos yp (up-pos ey)) (down-pos ex) in
-      let h : a ≤ c = le-trans (le-of-eq (g0 (up ex) (down ey))) zero-le in
-      let same : div binary32 plusZero (fin false my ey) ≡ round binary32 false a c =
-      div-fin 0 (pos 0) my ey yp ∙ round-same binary32 false (0 * down ey) (my * up ey * 1) a c (mul-pos (mul-pos yp (up-pos ey)) (lit< tt)) cp (g1 (down ey) c (up ex) (my * up ey)) in
-      let r : Quotient y a c = subst (λ (z : Float). Quotient (mul binary32 z half-turn) a c) (sym same) (quotient a c cp h) in
-      let t = toUnsigned 64 y in
+      let h : a ≤ c = zero-over my ey ex in
+      let r = zero-quotient my ey ex yp in
+      let t = ratioOf plusZero (fin false my ey) in
       let w = angle-out 1 (seek 24 t 0 13176795) (lit< tt) (sought t .few) in
       finish sy my ey sx 0 ex (angleOf 1 (seek 24 t 0 13176795)) (place 1 (seek 24 t 0 13176795)) w
       (any-sign sy (my * up ey) (down ey) sx (up ex) (down ex) _ _ (steep sy false (my * up ey) (down ey) (0 * up ex) (down ex) t (w .m * up (w .e)) (down (w .e)) (down-pos (w .e)) cp (r .slope) h (r .top) (w .at)))
-    where
-      g0 : (u d : ℕ) → 0 * u * d ≡ 0
-      g0 u d = omega arith
-
-      g1 : (d c u n : ℕ) → 0 * d * c ≡ 0 * u * d * (n * 1)
-      g1 d c u n = omega arith
 
   pub arc-zero-x : IsArc (fin sy my ey) (fin sx 0 ex) (arcSteps (fin sy my ey) (fin sx 0 ex))
   unfolding arcSteps

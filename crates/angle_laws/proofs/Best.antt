@@ -1,15 +1,14 @@
 -- The certified guess answers an `IsArc`, and so do the steps of the arctangent: the guess, or the halving. Assumes nothing.
 use mathlib.Core.Path.{_≡_, sym, subst, ap, _∙_, refl, subst₂}
 use mathlib.Core.Bool.{Bool, false, true, cond, true≢false}
-use Prim.Native.Nat.{ℕ, _+_, _*_, _≤_, _<_, max, zero-le, zero, suc}
-use native.Mathlib.Nat.{le-trans, le-of-eq, mul-pos, zero-lt-suc}
+use Prim.Native.Nat.{ℕ, _+_, _*_, _≤_, _<_, max, zero, suc}
+use native.Mathlib.Nat.{mul-pos, zero-lt-suc}
 use native.Mathlib.Omega.{arith}
 use lib.IntN.{ℤ, pos}
-use lib.Ieee.{Float, nan, inf, fin, up, down, binary32, fits, lt, le, eq, neg, div, mul, round}
-use lib.Dec.{T, lit<, lit≤}
+use lib.Ieee.{Float, nan, inf, fin, up, down, binary32, fits, lt, le, eq, neg, div, mul}
+use lib.Dec.{T, lit≤}
 use lib.Ieee.Fits.{down-pos, up-pos, cond-fits, neg-fits, sub-fits, div-fits}
 use lib.Ieee.Bits.{ofBits-fits}
-use lib.Ieee.Scale.{round-same}
 use Rattle.bits.specs.Parts.{places}
 use Rattle.angles.proofs.Cert.{top-of, body}
 use Rattle.angle_laws.specs.Angle.{C, Ratio, S, sine, cosine}
@@ -22,7 +21,7 @@ use Rattle.angle_laws.proofs.Line.{Line}
 use Rattle.angle_laws.proofs.Certify.{by-grid}
 use Rattle.angles.specs.Guess.{num32, plus32, less32, times32, over32, tailOf, raisedOf, loweredOf, atanLow, atanHigh, atanGuess, arcGuess}
 use Rattle.angles.proofs.Sides.{lt-zero, mag-pos, div-fin, le-true, le-false, zero-lt, mag-zero, le-zero}
-use Rattle.angle_laws.proofs.Arcs.{any-sign}
+use Rattle.angle_laws.proofs.Arcs.{any-sign, zero-over, zero-quotient}
 
 cond-1 : (a b : Bool) → T (cond a b false) → (a ≡ true) × T b
 cond-1 true b t = (refl, t)
@@ -194,21 +193,13 @@ module _ (sy : Bool) (my : ℕ) (ey : ℤ) (sx : Bool) (ex : ℤ) (yp : 0 < my) 
       let a = 0 * up ex * down ey in
       let c = my * up ey * down ex in
       let cp : 0 < c = mul-pos (mul-pos yp (up-pos ey)) (down-pos ex) in
-      let h : a ≤ c = le-trans (le-of-eq (g0 (up ex) (down ey))) zero-le in
-      let same : div binary32 plusZero (fin false my ey) ≡ round binary32 false a c =
-      div-fin 0 (pos 0) my ey yp ∙ round-same binary32 false (0 * down ey) (my * up ey * 1) a c (mul-pos (mul-pos yp (up-pos ey)) (lit< tt)) cp (g1 (down ey) c (up ex) (my * up ey)) in
-      let r : Quotient (mul binary32 (div binary32 plusZero (fin false my ey)) half-turn) a c = subst (λ (z : Float). Quotient (mul binary32 z half-turn) a c) (sym same) (quotient a c cp h) in
+      let h : a ≤ c = zero-over my ey ex in
+      let r = zero-quotient my ey ex yp in
       let t = ratioOf plusZero (fin false my ey) in
       let g = arcGuess false (fin false my ey) plusZero in
       let s = steep-sides a c t cp h (r .slope) in
       pick (fin sy my ey) (fin sx 0 ex) (cond sy (neg (magf g)) (magf g)) (arcSteps (fin sy my ey) (fin sx 0 ex)) (certOf false 2147483648 t (magf g))
       (by-guess sy my ey sx false 0 ex 2147483648 t g (guess-fits false (fin false my ey) plusZero) (λ (u v : Ratio). any-sign sy (my * up ey) (down ey) sx (up ex) (down ex) u v) (s .0) (s .1 .0) (s .1 .1)) old
-    where
-      g0 : (u d : ℕ) → 0 * u * d ≡ 0
-      g0 u d = omega arith
-
-      g1 : (d c u n : ℕ) → 0 * d * c ≡ 0 * u * d * (n * 1)
-      g1 d c u n = omega arith
 
   best-zero-x : IsArc (fin sy my ey) (fin sx 0 ex) (bestSteps (fin sy my ey) (fin sx 0 ex))
   unfolding bestSteps
