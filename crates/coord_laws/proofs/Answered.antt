@@ -34,9 +34,10 @@ use Rattle.limits.proofs.Passed.{Allowed, values-passed}
 use Rattle.limits.proofs.Ends.{between-low, between-high, between-finite, angle-finite}
 use Rattle.coords.specs.Coords.{perDegree, perRadian, full32, turnOf, flatOf, sphericalOf}
 use Rattle.coords.specs.Arrays.{lifted}
+use Rattle.coords.specs.Moderate.{Moderate}
 use Rattle.coord_laws.specs.Answered.{radians, TurnAnswered, ArcAnswered, ToCartesian, ToSpherical, ConversionsAnswered}
 use Rattle.coord_laws.proofs.Size.{Small, small-mul, small-add, small-rem, small-between, between-small}
-use Rattle.coord_laws.proofs.Inside.{Inside, list-copied}
+use Rattle.coord_laws.proofs.Inside.{list-copied}
 
 -- a test that holds takes the first way
 first : {A : Type 0} (b : Bool) (x y : A) → T b → cond b x y ≡ x
@@ -162,7 +163,7 @@ root-finite (fin false zero e) w p q = unfold rootOf in tt
 root-finite (fin false (suc m) e) w p q = positive-finite (rootOf (fin false (suc m) e)) (rootOf-positive (fin false (suc m) e) w (lt→ltb 0 (suc m) (omega arith)))
 
 -- THE WAY BACK IS ANSWERED for a point whose coordinates are of magnitude at most 10001
-pub spherical-answered : (p : Point3) → Inside p → ToSpherical p
+pub spherical-answered : (p : Point3) → Moderate p → ToSpherical p
 spherical-answered p i =
     let x = coordinate-small (p .x) (i .x) in
     let y = coordinate-small (p .y) (i .y) in

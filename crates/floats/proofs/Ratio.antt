@@ -12,6 +12,7 @@ use lib.Ieee.Fits.{up-pos, down-pos}
 use lib.Ieee.Order.{round-mono}
 use lib.Ieee.Positive.{positive}
 use lib.Ieee.Scale.{finite}
+use Rattle.floats.specs.Floats.{absOf}
 use Rattle.floats.proofs.Cross.{nonneg-cross}
 use Rattle.floats.proofs.Sign.{nonneg, round-nonneg}
 use Rattle.floats.proofs.Values.{round-back}
@@ -44,7 +45,14 @@ magnitude-finite nan p = absurd p
 magnitude-finite (inf s) p = absurd p
 magnitude-finite (fin s m e) p = tt
 
--- so is what is not negative and at most a finite value
+-- so is the size of a finite value
+pub size-magnitude : (x : Float) → T (finite x) → T (magnitude (absOf x))
+unfolding absOf
+size-magnitude nan f = absurd f
+size-magnitude (inf s) f = absurd f
+size-magnitude (fin s m e) f = tt
+
+-- and what is not negative and at most a finite value
 pub magnitude-below : (x y : Float) → T (nonneg x) → T (finite y) → T (le x y) → T (magnitude x)
 unfolding le lt eq
 magnitude-below nan y p f h = absurd p

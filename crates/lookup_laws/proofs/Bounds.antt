@@ -16,7 +16,7 @@ use Rattle.floats.proofs.Cross.{cross→le}
 use Rattle.floats.proofs.Sign.{nonneg}
 use Rattle.floats.proofs.Ops.{finite-number, sq-nonneg, sq-mono, add-nonneg, add-mono, neg-le}
 use Rattle.floats.proofs.Preorder.{le-trans-f, le-lt-trans}
-use Rattle.floats.proofs.Ratio.{magnitude-nonneg, magnitude-below}
+use Rattle.floats.proofs.Ratio.{magnitude-nonneg, size-magnitude, magnitude-below}
 use Rattle.points.specs.declared.Point3.{Point3}
 use Rattle.points.specs.Points.{pointAt}
 use Rattle.root.specs.Root.{rootOf}
@@ -28,7 +28,7 @@ use Rattle.limits.specs.Allowed.{nearest32, within}
 use Rattle.limits.proofs.Ends.{between-low, between-high}
 use Rattle.lookup.specs.Build.{leastOf, greatestOf, top32, bottom32, lookupOf}
 use Rattle.lookup_laws.specs.Clamp.{Radii, reach}
-use Rattle.lookup_laws.proofs.Clamp.{size-square, size-magnitude, sum, sum-nonneg}
+use Rattle.lookup_laws.proofs.Clamp.{size-square, sum, sum-nonneg}
 
 -- ---- one measurement
 

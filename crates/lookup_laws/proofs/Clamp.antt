@@ -7,17 +7,16 @@ use native.Mathlib.Nat.{zero-lt-suc, mul-pos, le-trans, mul-le-mul, le-of-eq, on
 use native.Mathlib.Omega.{arith}
 use lib.Dec.{T, T-not, ltb, leb, eqb, ltb→lt, lt→ltb, leb→le}
 use lib.IntN.{ℤ, pos, negsuc}
-use lib.Ieee.{Float, nan, inf, fin, binary32, up, down, unlike, add, mul, div, neg, round, lt, le, eq, fits}
+use lib.Ieee.{Float, nan, inf, fin, binary32, up, down, add, mul, div, neg, round, lt, le, eq, fits}
 use lib.Ieee.Fits.{and-l, and-r, up-pos, down-pos, add-fits, mul-fits}
 use lib.Ieee.Scale.{finite, round-same}
 use lib.Ieee.Positive.{positive, cross→le}
-use borrow.Author.Tests.{ne-eqb}
 use Rattle.floats.specs.Floats.{zero32, absOf}
 use Rattle.floats.proofs.Cross.{of-taken, of-left}
-use Rattle.floats.proofs.Sign.{nonneg, round-neg, round-nonneg, sq-neg}
+use Rattle.floats.proofs.Sign.{nonneg, round-neg, sq-neg}
 use Rattle.floats.proofs.Ops.{finite-number, neg-finite, sq-nonneg, sq-mono, add-nonneg, add-grows, add-grows-r}
 use Rattle.floats.proofs.Preorder.{le-trans-f, lt→le, le→not-lt, not-lt→le, lt-le-trans}
-use Rattle.floats.proofs.Ratio.{one, magnitude, magnitude-nonneg, magnitude-finite, magnitude-below, div-nonneg, div-mono, div-le-one, mul-nonneg, mul-mono-mag}
+use Rattle.floats.proofs.Ratio.{one, magnitude, magnitude-nonneg, magnitude-finite, size-magnitude, magnitude-below, div-nonneg, div-mono, div-le-one, mul-nonneg, mul-mono-mag}
 use Rattle.points.specs.declared.Point3.{Point3}
 use Rattle.points.specs.Points.{Finite}
 use Rattle.root.specs.Root.{rootOf}
@@ -142,12 +141,6 @@ size-square nan f = absurd f
 size-square (inf s) f = absurd f
 size-square (fin false m e) f = refl
 size-square (fin true m e) f = sym (unfold neg in sq-neg binary32 (fin false m e))
-
-pub size-magnitude : (x : Float) → T (finite x) → T (magnitude (absOf x))
-unfolding absOf
-size-magnitude nan f = absurd f
-size-magnitude (inf s) f = absurd f
-size-magnitude (fin s m e) f = tt
 
 root-reach : T (le reach (rootOf (mul binary32 reach reach)))
 unfolding rootOf mul le lt eq
