@@ -12,6 +12,7 @@ use lib.Ieee.{Float, nan, inf, fin, binary32, round, neg, add, mul, div, le, lt,
 use lib.Ieee.Fits.{and-i, mul-fits, add-fits}
 use lib.Ieee.Positive.{positive, positive-finite}
 use lib.Ieee.Scale.{finite}
+use Rattle.floats.specs.Floats.{absOf}
 use Rattle.floats.proofs.Cross.{cross→le}
 use Rattle.floats.proofs.Sign.{nonneg}
 use Rattle.floats.proofs.Ops.{finite-number, sq-nonneg, add-nonneg}
@@ -56,7 +57,7 @@ angle-small d e = between-small (nearest32 720 1) d (angle-finite d e) (between-
 
 -- 720 degrees are less than 16
 radians-small : (d : Float) → Small (nearest32 720 1) d → Small sixteen (radians d)
-unfolding round mul div ofBits le lt eq
+unfolding round mul div ofBits le lt eq absOf
 radians-small d h = small-mul binary32 (nearest32 720 1) perDegree sixteen d perDegree tt tt tt tt h (record { held = tt; most = tt })
 
 -- SINE AND COSINE OF EVERY ANGLE THAT DOCUMENT 01 ALLOWS ARE ANSWERED
@@ -94,17 +95,17 @@ arc-answered y x p q =
 
 -- of any two floats it is at most the f32 nearest π: +0 where a call would be refused
 zero-small : Small (signedPi32 false) plusZero
-unfolding le lt eq
+unfolding le lt eq absOf
 zero-small = record { held = tt; most = tt }
 
 from-arc : (s : Bool) (m : ℕ) (e : ℤ) (t : Bool) (n : ℕ) (d : ℤ) (r : Float) → IsArc (fin s m e) (fin t n d) r → Small (signedPi32 false) r
-unfolding IsArc
+unfolding IsArc absOf
 from-arc s m e t n d nan h = absurd h
 from-arc s m e t n d (inf u) h = absurd h
 from-arc s m e t n d (fin u k g) h = record { held = tt; most = cross→le (fin false k g) (signedPi32 false) tt tt (omega (arith, h .1 .1 .0)) }
 
 pub arc-small : (y x : Float) → Small (signedPi32 false) (atan2Of y x)
-unfolding atan2Of Arctan
+unfolding atan2Of Arctan absOf
 arc-small nan x = zero-small
 arc-small (inf s) x = zero-small
 arc-small (fin s m e) nan = zero-small
@@ -119,11 +120,11 @@ arc-small (fin s (suc m) e) (fin t n d) = from-arc s (suc m) e t n d (arctanStep
 -- ---- what `sphericalOf` gives, of any point: an azimuth and an elevation of magnitude at most 360 and 180
 
 degrees-small : (a : Float) → Small (signedPi32 false) a → Small (nearest32 180 1) (mul binary32 a perRadian)
-unfolding round mul div ofBits le lt eq
+unfolding round mul div ofBits le lt eq absOf
 degrees-small a h = small-mul binary32 (signedPi32 false) perRadian (nearest32 180 1) a perRadian tt tt tt tt h (record { held = tt; most = tt })
 
 raised-small : (a : Float) → Small (nearest32 180 1) a → Small (nearest32 540 1) (add binary32 a full32)
-unfolding round add ofBits le lt eq
+unfolding round add ofBits le lt eq absOf
 raised-small a h = small-add binary32 (nearest32 180 1) full32 (nearest32 540 1) a full32 tt tt tt tt h (record { held = tt; most = tt })
 
 pub azimuth-small : (p : Point3) → Small full32 (sphericalOf p .azimuth)
