@@ -18,7 +18,7 @@ ghost use lib.Ieee.Scale.{finite};
 ghost use Rattle.sines.specs.Steps.{rest, sinFix, cosFix, seek};
 ghost use Rattle.sines.specs.Sines.{plusZero};
 ghost use Rattle.angles.specs.Guess.{tailOf, raisedOf, loweredOf, atanLow, atanHigh, atanGuess, arcGuess};
-ghost use Rattle.angles.specs.Arc.{usable, magf, ratioOf, angleOf, eighthOf, arcSteps, behindOf, minusSize, plusOver, lineTest, turnTest, gridTest, certOf, bestSteps, arctanSteps};
+ghost use Rattle.angles.specs.Arc.{usable, ratioOf, angleOf, eighthOf, arcSteps, behindOf, minusSize, plusOver, lineTest, turnTest, gridTest, certOf, bestSteps, arctanSteps};
 ghost use Rattle.angles.specs.Says.{sinOf, cosOf, atan2Of, sineSays, cosineSays, arctanSays};
 
 // One level of the nested form: 1 - t / c * h, where 2^30 stands for 1.
@@ -108,19 +108,6 @@ fn seek_from(t: u64) -> u64
     lo
 }
 
-// The size of x, +0 for both zeros.
-fn mag_of(x: f32) -> f32
-    ensures { λ r. ⌜ r ≡ magf x ⌝ }
-{
-    if x < 0.0 {
-        -x
-    } else if x == 0.0 {
-        0.0
-    } else {
-        x
-    }
-}
-
 // lo / big in units of 2^-31.
 fn ratio_of(lo: f32, big: f32) -> u64
     requires { ⌜ T (lt (fin true 1 (pos 0)) (mul binary32 (div binary32 lo big) (fin false 1 (pos 31))))
@@ -184,8 +171,8 @@ fn arc(y: f32, x: f32) -> f32
     requires { ⌜ T (usable y x) ⌝ }
     ensures { λ r. ⌜ r ≡ arcSteps y x ⌝ }
 {
-    let p = mag_of(y);
-    let q = mag_of(x);
+    let p = floats::abs(y);
+    let q = floats::abs(x);
     if p <= q {
         let a = arc_size(true, x < 0.0, ratio_of(p, q));
         if y < 0.0 { -a } else { a }
@@ -399,9 +386,9 @@ fn arc_best(y: f32, x: f32) -> f32
     requires { ⌜ T (usable y x) ⌝ }
     ensures { λ r. ⌜ r ≡ bestSteps y x ⌝ }
 {
-    let p = mag_of(y);
-    let q = mag_of(x);
-    let c = mag_of(arc_guess(x < 0.0, p, q));
+    let p = floats::abs(y);
+    let q = floats::abs(x);
+    let c = floats::abs(arc_guess(x < 0.0, p, q));
     if p <= q {
         if certified(x < 0.0, ratio_of(p, q), 2147483648, c) {
             if y < 0.0 { -c } else { c }
