@@ -35,7 +35,6 @@ pub record Exact (a c st sb gt gb : ℕ) : Type 0 where
   pub res : dist (a * gt * sb) (c * st * gb) * 262144 ≤ c * gb * sb
   pub g-pos : 0 < gt
   pub sb-pos : 0 < sb
-  pub gb-pos : 0 < gb
 
 -- S and C of ± n / d in the eighth o
 pub sine-at : (f : Bool) (n d X o : ℕ) → Reduced f n d X o → sine f n d ≡ pickS (turn f (half o)) (xor f (odd o)) (restTop (half o) n d) (restBot d)
@@ -94,7 +93,6 @@ module _ (f : Bool) (o t a c n d : ℕ) (ho : o < 4) (dp : 0 < d) (sl : Slope t 
         res = residual t a c j R D so sl ac tl (red .proper) here next;
         g-pos = cos-positive t a c j R D so sl ac tl (red .proper) here next (cos-bot-pos D dp');
         sb-pos = sin-bot-pos D dp';
-        gb-pos = cos-bot-pos D dp';
       }
 
   pub s-is : sine f n d ≡ pickS (turn f (half o)) (xor f (odd o)) (restTop (half o) n d) (restBot d)
