@@ -2,22 +2,21 @@
 use mathlib.Core.Path.{refl, sym, subst, _≡_, _∙_, subst₂}
 use mathlib.Core.Bool.{Bool, true, false, cond, Bool·beq}
 use Prim.Native.Nat.{ℕ, _*_, _+_, _≤_, _<_, max, zero-le, zero, suc}
-use lib.IntN.{ℤ, pos}
-use lib.Ieee.{Float, fin, up, down, neg, binary32, mul, div, lt, le, toUnsigned, round}
+use lib.IntN.{ℤ}
+use lib.Ieee.{Float, fin, up, down, neg, le}
 use native.Mathlib.Omega.{arith}
 use native.Mathlib.Nat.{mul-pos, zero-mul, le-trans, le-of-eq, zero-lt-suc}
 use lib.Ieee.Fits.{down-pos, up-pos}
 use lib.Dec.{lit<}
-use lib.Ieee.Scale.{round-same}
-use Rattle.angles.proofs.Sides.{lt-zero, mag-pos, div-fin, le-true, le-false, zero-lt, mag-zero, le-zero}
+use Rattle.floats.specs.Floats.{absOf}
+use Rattle.angles.proofs.Sides.{lt-zero, le-true, le-false, zero-lt, le-zero, ratio-near}
+use Rattle.angles.proofs.Steps.{halved}
 use Rattle.angle_laws.specs.Angle.{S, C, sine, cosine, Ratio}
 use Rattle.angle_laws.specs.Asked.{IsArc, plusPositive}
 use Rattle.angle_laws.proofs.Out.{Out, angle-out, place}
 use Rattle.angle_laws.proofs.Line.{Line, flat, steep, eighth-lt}
 use Rattle.sines.specs.Steps.{dist, xor, seek}
 use Rattle.angles.specs.Arc.{minusSize, ratioOf, angleOf, eighthOf, arcSteps}
-use Rattle.angles.proofs.Ratio.{half-turn, Quotient, quotient}
-use Rattle.sines.specs.Sines.{plusZero}
 use Rattle.angles.proofs.Seek.{sought}
 
 -- ---- from the line to the float
@@ -32,14 +31,14 @@ finish sy my ey sx mx ex a N w l = subst (λ (z : Float). IsArc (fin sy my ey) (
     go true l = (l .0, (l .1, (w .top, refl)))
     go false l = (l .0, (l .1, (w .top, refl)))
 
--- the sign of a zero x does not matter
-none : (dy p : ℕ) → 0 * dy * p ≡ 0
-none dy p = omega arith
+pub zero-times : (a b : ℕ) → 0 * a * b ≡ 0
+zero-times a b = omega arith
 
+-- the sign of a zero x does not matter
 turn-zero : (sy : Bool) (ny dy dx : ℕ) (s c : Ratio) → Line sy ny dy false 0 dx s c → Line sy ny dy true 0 dx s c
 turn-zero sy ny dy dx s c l = (
-  subst (λ (z : ℕ). z * 262144 ≤ max (0 * dy) (ny * dx) * (c .bot * s .bot)) (any (xor sy (c .neg)) (xor false (s .neg)) (xor true (s .neg)) (ny * dx * (c .top * s .bot)) (0 * dy * (s .top * c .bot)) (none dy (s .top * c .bot))) (l .0),
-  fwd (c .neg) (xor sy (s .neg)) (0 * dy * (c .top * s .bot)) (ny * dx * (s .top * c .bot)) (none dy (c .top * s .bot)) (l .1),
+  subst (λ (z : ℕ). z * 262144 ≤ max (0 * dy) (ny * dx) * (c .bot * s .bot)) (any (xor sy (c .neg)) (xor false (s .neg)) (xor true (s .neg)) (ny * dx * (c .top * s .bot)) (0 * dy * (s .top * c .bot)) (zero-times dy (s .top * c .bot))) (l .0),
+  fwd (c .neg) (xor sy (s .neg)) (0 * dy * (c .top * s .bot)) (ny * dx * (s .top * c .bot)) (zero-times dy (c .top * s .bot)) (l .1),
 )
   where
     eqs : (u v : ℕ) → v ≡ 0 → dist u v ≡ u + v
@@ -78,34 +77,26 @@ module _ (sy : Bool) (my : ℕ) (ey : ℤ) (sx : Bool) (mx : ℕ) (ex : ℤ) (yp
   when-flat : my * up ey * down ex ≤ mx * up ex * down ey → IsArc (fin sy my ey) (fin sx mx ex) (cond sy (neg (angleOf (eighthOf true sx) (seek 24 (ratioOf (fin false my ey) (fin false mx ex)) 0 13176795))) (angleOf (eighthOf true sx) (seek 24 (ratioOf (fin false my ey) (fin false mx ex)) 0 13176795)))
   unfolding ratioOf
   when-flat h =
-      let y = mul binary32 (div binary32 (fin false my ey) (fin false mx ex)) half-turn in
-      let r : Quotient y (my * up ey * down ex) (mx * up ex * down ey) = subst (λ (z : Float). Quotient (mul binary32 z half-turn) (my * up ey * down ex) (mx * up ex * down ey)) (sym (div-fin my ey mx ex xp)) (quotient (my * up ey * down ex) (mx * up ex * down ey) w-pos h) in
-      let t = toUnsigned 64 y in
+      let r = ratio-near my ey mx ex xp h in
+      let t = ratioOf (fin false my ey) (fin false mx ex) in
       let w = angle-out (eighthOf true sx) (seek 24 t 0 13176795) (eighth-lt true sx) (sought t .few) in
       finish sy my ey sx mx ex _ _ w (flat sy sx (my * up ey) (down ey) (mx * up ex) (down ex) t (w .m * up (w .e)) (down (w .e)) (down-pos (w .e)) w-pos (r .slope) h (r .top) (w .at))
 
   when-steep : mx * up ex * down ey ≤ my * up ey * down ex → IsArc (fin sy my ey) (fin sx mx ex) (cond sy (neg (angleOf (eighthOf false sx) (seek 24 (ratioOf (fin false mx ex) (fin false my ey)) 0 13176795))) (angleOf (eighthOf false sx) (seek 24 (ratioOf (fin false mx ex) (fin false my ey)) 0 13176795)))
   unfolding ratioOf
   when-steep h =
-      let y = mul binary32 (div binary32 (fin false mx ex) (fin false my ey)) half-turn in
-      let r : Quotient y (mx * up ex * down ey) (my * up ey * down ex) = subst (λ (z : Float). Quotient (mul binary32 z half-turn) (mx * up ex * down ey) (my * up ey * down ex)) (sym (div-fin mx ex my ey yp)) (quotient (mx * up ex * down ey) (my * up ey * down ex) u-pos h) in
-      let t = toUnsigned 64 y in
+      let r = ratio-near mx ex my ey yp h in
+      let t = ratioOf (fin false mx ex) (fin false my ey) in
       let w = angle-out (eighthOf false sx) (seek 24 t 0 13176795) (eighth-lt false sx) (sought t .few) in
       finish sy my ey sx mx ex _ _ w (steep sy sx (my * up ey) (down ey) (mx * up ex) (down ex) t (w .m * up (w .e)) (down (w .e)) (down-pos (w .e)) u-pos (r .slope) h (r .top) (w .at))
 
   pub arc-both : IsArc (fin sy my ey) (fin sx mx ex) (arcSteps (fin sy my ey) (fin sx mx ex))
-  unfolding arcSteps
+  unfolding arcSteps absOf
   arc-both =
-      subst₂ (λ (p q : Float). IsArc (fin sy my ey) (fin sx mx ex) (body (le p q) (lt (fin sx mx ex) plusZero) (lt (fin sy my ey) plusZero) p q)) (sym (mag-pos sy my ey yp)) (sym (mag-pos sx mx ex xp))
-      (subst₂ (λ (p q : Bool). IsArc (fin sy my ey) (fin sx mx ex) (body (le (fin false my ey) (fin false mx ex)) p q (fin false my ey) (fin false mx ex))) (sym (lt-zero sx mx ex xp)) (sym (lt-zero sy my ey yp))
-      (go (le (fin false my ey) (fin false mx ex)) (le-true my ey mx ex) (le-false my ey mx ex)))
+      subst₂ (λ (p q : Bool). IsArc (fin sy my ey) (fin sx mx ex) (halved (le (fin false my ey) (fin false mx ex)) p q (fin false my ey) (fin false mx ex))) (sym (lt-zero sx mx ex xp)) (sym (lt-zero sy my ey yp))
+      (go (le (fin false my ey) (fin false mx ex)) (le-true my ey mx ex) (le-false my ey mx ex))
     where
-      body : Bool → Bool → Bool → Float → Float → Float
-      body b x y p q =
-          let a = angleOf (eighthOf b x) (seek 24 (cond b (ratioOf p q) (ratioOf q p)) 0 13176795) in
-          cond y (neg a) a
-
-      go : (b : Bool) → (b ≡ true → my * up ey * down ex ≤ mx * up ex * down ey) → (b ≡ false → mx * up ex * down ey ≤ my * up ey * down ex) → IsArc (fin sy my ey) (fin sx mx ex) (body b sx sy (fin false my ey) (fin false mx ex))
+      go : (b : Bool) → (b ≡ true → my * up ey * down ex ≤ mx * up ex * down ey) → (b ≡ false → mx * up ex * down ey ≤ my * up ey * down ex) → IsArc (fin sy my ey) (fin sx mx ex) (halved b sx sy (fin false my ey) (fin false mx ex))
       go true y n = when-flat (y refl)
       go false y n = when-steep (n refl)
 
@@ -113,40 +104,29 @@ pub any-sign : (sy : Bool) (ny dy : ℕ) (sx : Bool) (u dx : ℕ) (s c : Ratio) 
 any-sign sy ny dy false u dx s c l = l
 any-sign sy ny dy true u dx s c l = subst (λ (z : ℕ). Line sy ny dy true z dx s c) (sym (zero-mul u)) (turn-zero sy ny dy dx s c (subst (λ (z : ℕ). Line sy ny dy false z dx s c) (zero-mul u) l))
 
+-- x zero: its ratio to y
+pub zero-over : (m : ℕ) (e d : ℤ) → 0 * up d * down e ≤ m * up e * down d
+zero-over m e d = le-trans (le-of-eq (zero-times (up d) (down e))) zero-le
+
 module _ (sy : Bool) (my : ℕ) (ey : ℤ) (sx : Bool) (ex : ℤ) (yp : 0 < my) where
-  at-zero : IsArc (fin sy my ey) (fin sx 0 ex) (cond sy (neg (angleOf 1 (seek 24 (ratioOf plusZero (fin false my ey)) 0 13176795))) (angleOf 1 (seek 24 (ratioOf plusZero (fin false my ey)) 0 13176795)))
+  at-zero : IsArc (fin sy my ey) (fin sx 0 ex) (cond sy (neg (angleOf 1 (seek 24 (ratioOf (fin false 0 ex) (fin false my ey)) 0 13176795))) (angleOf 1 (seek 24 (ratioOf (fin false 0 ex) (fin false my ey)) 0 13176795)))
   unfolding ratioOf
   at-zero =
-      let y = mul binary32 (div binary32 plusZero (fin false my ey)) half-turn in
       let a = 0 * up ex * down ey in
       let c = my * up ey * down ex in
       let cp : 0 < c = mul-pos (mul-pos yp (up-pos ey)) (down-pos ex) in
-      let h : a ≤ c = le-trans (le-of-eq (g0 (up ex) (down ey))) zero-le in
-      let same : div binary32 plusZero (fin false my ey) ≡ round binary32 false a c =
-      div-fin 0 (pos 0) my ey yp ∙ round-same binary32 false (0 * down ey) (my * up ey * 1) a c (mul-pos (mul-pos yp (up-pos ey)) (lit< tt)) cp (g1 (down ey) c (up ex) (my * up ey)) in
-      let r : Quotient y a c = subst (λ (z : Float). Quotient (mul binary32 z half-turn) a c) (sym same) (quotient a c cp h) in
-      let t = toUnsigned 64 y in
+      let h : a ≤ c = zero-over my ey ex in
+      let r = ratio-near 0 ex my ey yp h in
+      let t = ratioOf (fin false 0 ex) (fin false my ey) in
       let w = angle-out 1 (seek 24 t 0 13176795) (lit< tt) (sought t .few) in
       finish sy my ey sx 0 ex (angleOf 1 (seek 24 t 0 13176795)) (place 1 (seek 24 t 0 13176795)) w
       (any-sign sy (my * up ey) (down ey) sx (up ex) (down ex) _ _ (steep sy false (my * up ey) (down ey) (0 * up ex) (down ex) t (w .m * up (w .e)) (down (w .e)) (down-pos (w .e)) cp (r .slope) h (r .top) (w .at)))
-    where
-      g0 : (u d : ℕ) → 0 * u * d ≡ 0
-      g0 u d = omega arith
-
-      g1 : (d c u n : ℕ) → 0 * d * c ≡ 0 * u * d * (n * 1)
-      g1 d c u n = omega arith
 
   pub arc-zero-x : IsArc (fin sy my ey) (fin sx 0 ex) (arcSteps (fin sy my ey) (fin sx 0 ex))
-  unfolding arcSteps
+  unfolding arcSteps absOf
   arc-zero-x =
-      subst₂ (λ (p q : Float). IsArc (fin sy my ey) (fin sx 0 ex) (body (le p q) (lt (fin sx 0 ex) plusZero) (lt (fin sy my ey) plusZero) p q)) (sym (mag-pos sy my ey yp)) (sym (mag-zero sx ex))
-      (subst₂ (λ (p q : Bool). IsArc (fin sy my ey) (fin sx 0 ex) (body (le (fin false my ey) plusZero) p q (fin false my ey) plusZero)) (sym (zero-lt sx ex)) (sym (lt-zero sy my ey yp))
-      (subst (λ (b : Bool). IsArc (fin sy my ey) (fin sx 0 ex) (body b false sy (fin false my ey) plusZero)) (sym (le-zero my ey yp)) at-zero))
-    where
-      body : Bool → Bool → Bool → Float → Float → Float
-      body b x y p q =
-          let a = angleOf (eighthOf b x) (seek 24 (cond b (ratioOf p q) (ratioOf q p)) 0 13176795) in
-          cond y (neg a) a
+      subst₂ (λ (p q : Bool). IsArc (fin sy my ey) (fin sx 0 ex) (halved (le (fin false my ey) (fin false 0 ex)) p q (fin false my ey) (fin false 0 ex))) (sym (zero-lt sx ex)) (sym (lt-zero sy my ey yp))
+      (subst (λ (b : Bool). IsArc (fin sy my ey) (fin sx 0 ex) (halved b false sy (fin false my ey) (fin false 0 ex))) (sym (le-zero my ey ex yp)) at-zero)
 
 pub arc-good : (sy : Bool) (my : ℕ) (ey : ℤ) (sx : Bool) (mx : ℕ) (ex : ℤ) → 0 < my → IsArc (fin sy my ey) (fin sx mx ex) (arcSteps (fin sy my ey) (fin sx mx ex))
 arc-good sy my ey sx zero ex yp = arc-zero-x sy my ey sx ex yp

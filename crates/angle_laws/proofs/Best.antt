@@ -1,28 +1,27 @@
 -- The certified guess answers an `IsArc`, and so do the steps of the arctangent: the guess, or the halving. Assumes nothing.
-use mathlib.Core.Path.{_≡_, sym, subst, ap, _∙_, refl, subst₂}
+use mathlib.Core.Path.{_≡_, sym, subst, refl, subst₂}
 use mathlib.Core.Bool.{Bool, false, true, cond, true≢false}
-use Prim.Native.Nat.{ℕ, _+_, _*_, _≤_, _<_, max, zero-le, zero, suc}
-use native.Mathlib.Nat.{le-trans, le-of-eq, mul-pos, zero-lt-suc}
+use Prim.Native.Nat.{ℕ, _+_, _*_, _≤_, _<_, max, zero, suc}
+use native.Mathlib.Nat.{mul-pos, zero-lt-suc}
 use native.Mathlib.Omega.{arith}
-use lib.IntN.{ℤ, pos}
-use lib.Ieee.{Float, nan, inf, fin, up, down, binary32, fits, lt, le, eq, neg, div, mul, round}
-use lib.Dec.{T, lit<, lit≤}
+use lib.IntN.{ℤ}
+use lib.Ieee.{Float, nan, inf, fin, up, down, binary32, fits, lt, le, neg}
+use lib.Dec.{T}
 use lib.Ieee.Fits.{down-pos, up-pos, cond-fits, neg-fits, sub-fits, div-fits}
 use lib.Ieee.Bits.{ofBits-fits}
-use lib.Ieee.Scale.{round-same}
+use Rattle.floats.specs.Floats.{absOf}
 use Rattle.bits.specs.Parts.{places}
 use Rattle.angles.proofs.Cert.{top-of, body}
 use Rattle.angle_laws.specs.Angle.{C, Ratio, S, sine, cosine}
 use Rattle.angle_laws.proofs.Placed.{placed}
-use Rattle.sines.specs.Sines.{plusZero}
-use Rattle.angles.specs.Arc.{signedPi32, magf, certOf, gridTest, ratioOf, arcSteps, bestSteps}
+use Rattle.angles.specs.Arc.{signedPi32, certOf, gridTest, ratioOf, arcSteps, bestSteps}
 use Rattle.angle_laws.specs.Asked.{IsArc}
-use Rattle.angles.proofs.Ratio.{Slope, half-turn, Quotient, quotient}
+use Rattle.angles.proofs.Ratio.{Slope}
 use Rattle.angle_laws.proofs.Line.{Line}
 use Rattle.angle_laws.proofs.Certify.{by-grid}
 use Rattle.angles.specs.Guess.{num32, plus32, less32, times32, over32, tailOf, raisedOf, loweredOf, atanLow, atanHigh, atanGuess, arcGuess}
-use Rattle.angles.proofs.Sides.{lt-zero, mag-pos, div-fin, le-true, le-false, zero-lt, mag-zero, le-zero}
-use Rattle.angle_laws.proofs.Arcs.{any-sign}
+use Rattle.angles.proofs.Sides.{lt-zero, le-true, le-false, zero-lt, le-zero, ratio-near}
+use Rattle.angle_laws.proofs.Arcs.{any-sign, zero-over}
 
 cond-1 : (a b : Bool) → T (cond a b false) → (a ≡ true) × T b
 cond-1 true b t = (refl, t)
@@ -39,27 +38,23 @@ record Good (c : Float) : Type 0 where
   pub is : c ≡ fin false m e
   pub top : m * up e * 4194304 ≤ 13176795 * down e
 
-good : (g : Float) → le (magf g) (signedPi32 false) ≡ true → Good (magf g)
-unfolding lt le eq magf neg
+good : (g : Float) → le (absOf g) (signedPi32 false) ≡ true → Good (absOf g)
+unfolding le absOf
 good nan h = absurd (true≢false (sym h))
-good (inf true) h = absurd (true≢false (sym h))
-good (inf false) h = absurd (true≢false (sym h))
-good (fin s zero d) h = record { m = 0; e = pos 0; is = mag-zero s d; top = lit≤ tt }
-good (fin s (suc m) d) h =
-    let e = mag-pos s (suc m) d (zero-lt-suc m) in
-    record { m = suc m; e = d; is = e; top = top-of (suc m) d (sym (ap (λ (z : Float). le z (signedPi32 false)) e) ∙ h) }
+good (inf s) h = absurd (true≢false (sym h))
+good (fin s m d) h = record { m = m; e = d; is = refl; top = top-of m d h }
 
 narrower : (n d : ℕ) → n * 4194304 ≤ 13176795 * d → n ≤ 16 * d
 narrower n d h = omega arith
 
 -- ---- the certified guess
-pub by-guess : (sy : Bool) (my : ℕ) (ey : ℤ) (sx back : Bool) (mx : ℕ) (ex : ℤ) (py px : ℕ) (g : Float) → T (fits binary32 (magf g))
+pub by-guess : (sy : Bool) (my : ℕ) (ey : ℤ) (sx back : Bool) (mx : ℕ) (ex : ℤ) (py px : ℕ) (g : Float) → T (fits binary32 (absOf g))
     → ((s k : Ratio) → Line sy (my * up ey) (down ey) back (mx * up ex) (down ex) s k → Line sy (my * up ey) (down ey) sx (mx * up ex) (down ex) s k)
     → 0 < max (mx * up ex * down ey) (my * up ey * down ex) → Slope py (my * up ey * down ex) (max (mx * up ex * down ey) (my * up ey * down ex)) 520 → Slope px (mx * up ex * down ey) (max (mx * up ex * down ey) (my * up ey * down ex)) 520
-    → T (certOf back py px (magf g)) → IsArc (fin sy my ey) (fin sx mx ex) (cond sy (neg (magf g)) (magf g))
+    → T (certOf back py px (absOf g)) → IsArc (fin sy my ey) (fin sx mx ex) (cond sy (neg (absOf g)) (absOf g))
 unfolding IsArc S C neg
 by-guess sy my ey sx back mx ex py px c ft tr mp slY slX t =
-    let o = cert-open back py px (magf c) t in
+    let o = cert-open back py px (absOf c) t in
     let g = good c (o .0) in
     subst (λ (z : Float). IsArc (fin sy my ey) (fin sx mx ex) (cond sy (neg z) z)) (sym (g .is))
     (fin-arc (g .m) (g .e) (g .top) (subst (λ (z : Float). T (fits binary32 z)) (g .is) ft) (subst (λ (z : Float). T (gridTest back py px (places 40 z))) (g .is) (o .1)))
@@ -74,13 +69,12 @@ by-guess sy my ey sx back mx ex py px c ft tr mp slY slX t =
         (by-grid sy back (my * up ey) (down ey) (mx * up ex) (down ex) py px (m * up e) (down e) (places 40 (fin false m e)) (down-pos e) mp slY slX (placed m e f (narrower (m * up e) (down e) top) .reduced-at sy) t))
 
 -- ---- the guess is a float of the format
-zero-fits : T (fits binary32 plusZero)
-unfolding fits
-zero-fits = tt
-
-mag-fits : (x : Float) → T (fits binary32 x) → T (fits binary32 (magf x))
-unfolding magf
-mag-fits x f = cond-fits binary32 (lt x plusZero) (neg x) (cond (eq x plusZero) plusZero x) (neg-fits binary32 x f) (cond-fits binary32 (eq x plusZero) plusZero x zero-fits f)
+size-fits : (x : Float) → T (fits binary32 x) → T (fits binary32 (absOf x))
+unfolding absOf
+size-fits nan f = f
+size-fits (inf s) f = unfold fits in tt
+size-fits (fin false m e) f = f
+size-fits (fin true m e) f = unfold neg in neg-fits binary32 (fin true m e) f
 
 low-fits : (x : Float) → T (fits binary32 x) → T (fits binary32 (atanLow x))
 unfolding atanLow
@@ -116,11 +110,11 @@ atan-fits : (x : Float) → T (fits binary32 x) → T (fits binary32 (atanGuess 
 unfolding atanGuess
 atan-fits x f = cond-fits binary32 (lt x (num32 1054867456)) (atanLow x) (atanHigh x) (low-fits x f) (high-fits x)
 
-guess-fits : (back : Bool) (p s : Float) → T (fits binary32 (magf (arcGuess back p s)))
+guess-fits : (back : Bool) (p s : Float) → T (fits binary32 (absOf (arcGuess back p s)))
 unfolding arcGuess
 guess-fits back p s =
     let z = atanGuess (over32 p s) in
-    mag-fits (arcGuess back p s) (cond-fits binary32 back (less32 (num32 1078530011) (plus32 z (num32 867941678))) z (sub-fits binary32 (num32 1078530011) (plus32 z (num32 867941678))) (atan-fits (over32 p s) (div-fits binary32 p s)))
+    size-fits (arcGuess back p s) (cond-fits binary32 back (less32 (num32 1078530011) (plus32 z (num32 867941678))) z (sub-fits binary32 (num32 1078530011) (plus32 z (num32 867941678))) (atan-fits (over32 p s) (div-fits binary32 p s)))
 
 same-slope : (a c : ℕ) → a ≡ c → Slope 2147483648 a c 520
 same-slope a c e = record { low = lo; high = hi }
@@ -158,29 +152,28 @@ module _ (sy : Bool) (my : ℕ) (ey : ℤ) (sx : Bool) (mx : ℕ) (ex : ℤ) (yp
   best-flat : my * up ey * down ex ≤ mx * up ex * down ey → IsArc (fin sy my ey) (fin sx mx ex) (body (fin sy my ey) (fin sx mx ex) true sx sy (fin false my ey) (fin false mx ex))
   unfolding ratioOf
   best-flat h =
-      let r : Quotient (mul binary32 (div binary32 (fin false my ey) (fin false mx ex)) half-turn) (my * up ey * down ex) (mx * up ex * down ey) = subst (λ (z : Float). Quotient (mul binary32 z half-turn) (my * up ey * down ex) (mx * up ex * down ey)) (sym (div-fin my ey mx ex xp)) (quotient (my * up ey * down ex) (mx * up ex * down ey) w-pos h) in
+      let r = ratio-near my ey mx ex xp h in
       let t = ratioOf (fin false my ey) (fin false mx ex) in
       let c = arcGuess sx (fin false my ey) (fin false mx ex) in
       let s = flat-sides (mx * up ex * down ey) (my * up ey * down ex) t w-pos h (r .slope) in
-      pick (fin sy my ey) (fin sx mx ex) (cond sy (neg (magf c)) (magf c)) (arcSteps (fin sy my ey) (fin sx mx ex)) (certOf sx t 2147483648 (magf c))
+      pick (fin sy my ey) (fin sx mx ex) (cond sy (neg (absOf c)) (absOf c)) (arcSteps (fin sy my ey) (fin sx mx ex)) (certOf sx t 2147483648 (absOf c))
       (by-guess sy my ey sx sx mx ex t 2147483648 c (guess-fits sx (fin false my ey) (fin false mx ex)) (λ (a b : Ratio) (l : Line sy (my * up ey) (down ey) sx (mx * up ex) (down ex) a b). l) (s .0) (s .1 .0) (s .1 .1)) old
 
   best-steep : mx * up ex * down ey ≤ my * up ey * down ex → IsArc (fin sy my ey) (fin sx mx ex) (body (fin sy my ey) (fin sx mx ex) false sx sy (fin false my ey) (fin false mx ex))
   unfolding ratioOf
   best-steep h =
-      let r : Quotient (mul binary32 (div binary32 (fin false mx ex) (fin false my ey)) half-turn) (mx * up ex * down ey) (my * up ey * down ex) = subst (λ (z : Float). Quotient (mul binary32 z half-turn) (mx * up ex * down ey) (my * up ey * down ex)) (sym (div-fin mx ex my ey yp)) (quotient (mx * up ex * down ey) (my * up ey * down ex) u-pos h) in
+      let r = ratio-near mx ex my ey yp h in
       let t = ratioOf (fin false mx ex) (fin false my ey) in
       let c = arcGuess sx (fin false my ey) (fin false mx ex) in
       let s = steep-sides (mx * up ex * down ey) (my * up ey * down ex) t u-pos h (r .slope) in
-      pick (fin sy my ey) (fin sx mx ex) (cond sy (neg (magf c)) (magf c)) (arcSteps (fin sy my ey) (fin sx mx ex)) (certOf sx 2147483648 t (magf c))
+      pick (fin sy my ey) (fin sx mx ex) (cond sy (neg (absOf c)) (absOf c)) (arcSteps (fin sy my ey) (fin sx mx ex)) (certOf sx 2147483648 t (absOf c))
       (by-guess sy my ey sx sx mx ex 2147483648 t c (guess-fits sx (fin false my ey) (fin false mx ex)) (λ (a b : Ratio) (l : Line sy (my * up ey) (down ey) sx (mx * up ex) (down ex) a b). l) (s .0) (s .1 .0) (s .1 .1)) old
 
   best-both : IsArc (fin sy my ey) (fin sx mx ex) (bestSteps (fin sy my ey) (fin sx mx ex))
-  unfolding bestSteps
+  unfolding bestSteps absOf
   best-both =
-      subst₂ (λ (p q : Float). IsArc (fin sy my ey) (fin sx mx ex) (body (fin sy my ey) (fin sx mx ex) (le p q) (lt (fin sx mx ex) plusZero) (lt (fin sy my ey) plusZero) p q)) (sym (mag-pos sy my ey yp)) (sym (mag-pos sx mx ex xp))
-      (subst₂ (λ (p q : Bool). IsArc (fin sy my ey) (fin sx mx ex) (body (fin sy my ey) (fin sx mx ex) (le (fin false my ey) (fin false mx ex)) p q (fin false my ey) (fin false mx ex))) (sym (lt-zero sx mx ex xp)) (sym (lt-zero sy my ey yp))
-      (go (le (fin false my ey) (fin false mx ex)) (le-true my ey mx ex) (le-false my ey mx ex)))
+      subst₂ (λ (p q : Bool). IsArc (fin sy my ey) (fin sx mx ex) (body (fin sy my ey) (fin sx mx ex) (le (fin false my ey) (fin false mx ex)) p q (fin false my ey) (fin false mx ex))) (sym (lt-zero sx mx ex xp)) (sym (lt-zero sy my ey yp))
+      (go (le (fin false my ey) (fin false mx ex)) (le-true my ey mx ex) (le-false my ey mx ex))
     where
       go : (b : Bool) → (b ≡ true → my * up ey * down ex ≤ mx * up ex * down ey) → (b ≡ false → mx * up ex * down ey ≤ my * up ey * down ex) → IsArc (fin sy my ey) (fin sx mx ex) (body (fin sy my ey) (fin sx mx ex) b sx sy (fin false my ey) (fin false mx ex))
       go true y n = best-flat (y refl)
@@ -188,34 +181,25 @@ module _ (sy : Bool) (my : ℕ) (ey : ℤ) (sx : Bool) (mx : ℕ) (ex : ℤ) (yp
 
 -- ---- x zero, of either sign
 module _ (sy : Bool) (my : ℕ) (ey : ℤ) (sx : Bool) (ex : ℤ) (yp : 0 < my) (old : IsArc (fin sy my ey) (fin sx 0 ex) (arcSteps (fin sy my ey) (fin sx 0 ex))) where
-  at-zero : IsArc (fin sy my ey) (fin sx 0 ex) (body (fin sy my ey) (fin sx 0 ex) false false sy (fin false my ey) plusZero)
+  at-zero : IsArc (fin sy my ey) (fin sx 0 ex) (body (fin sy my ey) (fin sx 0 ex) false false sy (fin false my ey) (fin false 0 ex))
   unfolding ratioOf
   at-zero =
       let a = 0 * up ex * down ey in
       let c = my * up ey * down ex in
       let cp : 0 < c = mul-pos (mul-pos yp (up-pos ey)) (down-pos ex) in
-      let h : a ≤ c = le-trans (le-of-eq (g0 (up ex) (down ey))) zero-le in
-      let same : div binary32 plusZero (fin false my ey) ≡ round binary32 false a c =
-      div-fin 0 (pos 0) my ey yp ∙ round-same binary32 false (0 * down ey) (my * up ey * 1) a c (mul-pos (mul-pos yp (up-pos ey)) (lit< tt)) cp (g1 (down ey) c (up ex) (my * up ey)) in
-      let r : Quotient (mul binary32 (div binary32 plusZero (fin false my ey)) half-turn) a c = subst (λ (z : Float). Quotient (mul binary32 z half-turn) a c) (sym same) (quotient a c cp h) in
-      let t = ratioOf plusZero (fin false my ey) in
-      let g = arcGuess false (fin false my ey) plusZero in
+      let h : a ≤ c = zero-over my ey ex in
+      let r = ratio-near 0 ex my ey yp h in
+      let t = ratioOf (fin false 0 ex) (fin false my ey) in
+      let g = arcGuess false (fin false my ey) (fin false 0 ex) in
       let s = steep-sides a c t cp h (r .slope) in
-      pick (fin sy my ey) (fin sx 0 ex) (cond sy (neg (magf g)) (magf g)) (arcSteps (fin sy my ey) (fin sx 0 ex)) (certOf false 2147483648 t (magf g))
-      (by-guess sy my ey sx false 0 ex 2147483648 t g (guess-fits false (fin false my ey) plusZero) (λ (u v : Ratio). any-sign sy (my * up ey) (down ey) sx (up ex) (down ex) u v) (s .0) (s .1 .0) (s .1 .1)) old
-    where
-      g0 : (u d : ℕ) → 0 * u * d ≡ 0
-      g0 u d = omega arith
-
-      g1 : (d c u n : ℕ) → 0 * d * c ≡ 0 * u * d * (n * 1)
-      g1 d c u n = omega arith
+      pick (fin sy my ey) (fin sx 0 ex) (cond sy (neg (absOf g)) (absOf g)) (arcSteps (fin sy my ey) (fin sx 0 ex)) (certOf false 2147483648 t (absOf g))
+      (by-guess sy my ey sx false 0 ex 2147483648 t g (guess-fits false (fin false my ey) (fin false 0 ex)) (λ (u v : Ratio). any-sign sy (my * up ey) (down ey) sx (up ex) (down ex) u v) (s .0) (s .1 .0) (s .1 .1)) old
 
   best-zero-x : IsArc (fin sy my ey) (fin sx 0 ex) (bestSteps (fin sy my ey) (fin sx 0 ex))
-  unfolding bestSteps
+  unfolding bestSteps absOf
   best-zero-x =
-      subst₂ (λ (p q : Float). IsArc (fin sy my ey) (fin sx 0 ex) (body (fin sy my ey) (fin sx 0 ex) (le p q) (lt (fin sx 0 ex) plusZero) (lt (fin sy my ey) plusZero) p q)) (sym (mag-pos sy my ey yp)) (sym (mag-zero sx ex))
-      (subst₂ (λ (p q : Bool). IsArc (fin sy my ey) (fin sx 0 ex) (body (fin sy my ey) (fin sx 0 ex) (le (fin false my ey) plusZero) p q (fin false my ey) plusZero)) (sym (zero-lt sx ex)) (sym (lt-zero sy my ey yp))
-      (subst (λ (b : Bool). IsArc (fin sy my ey) (fin sx 0 ex) (body (fin sy my ey) (fin sx 0 ex) b false sy (fin false my ey) plusZero)) (sym (le-zero my ey yp)) at-zero))
+      subst₂ (λ (p q : Bool). IsArc (fin sy my ey) (fin sx 0 ex) (body (fin sy my ey) (fin sx 0 ex) (le (fin false my ey) (fin false 0 ex)) p q (fin false my ey) (fin false 0 ex))) (sym (zero-lt sx ex)) (sym (lt-zero sy my ey yp))
+      (subst (λ (b : Bool). IsArc (fin sy my ey) (fin sx 0 ex) (body (fin sy my ey) (fin sx 0 ex) b false sy (fin false my ey) (fin false 0 ex))) (sym (le-zero my ey ex yp)) at-zero)
 
 pub best-good : (sy : Bool) (my : ℕ) (ey : ℤ) (sx : Bool) (mx : ℕ) (ex : ℤ) → 0 < my → IsArc (fin sy my ey) (fin sx mx ex) (arcSteps (fin sy my ey) (fin sx mx ex)) → IsArc (fin sy my ey) (fin sx mx ex) (bestSteps (fin sy my ey) (fin sx mx ex))
 best-good sy my ey sx zero ex yp old = best-zero-x sy my ey sx ex yp old

@@ -1,12 +1,13 @@
 -- What the certificate of a guessed angle gives: the angle lies on the line through (x, y), on the right side. Over whole numbers, then for each quarter turn. Assumes nothing.
 use Prim.Native.Nat.{ℕ, _+_, _*_, _≤_, _<_, max, zero, suc, _-_, _%_}
-use native.Mathlib.Nat.{mul-le-mul-right, mul-assoc, mul-comm, mul-pos, le-of-lt}
+use native.Mathlib.Nat.{mul-le-mul-right, mul-assoc, mul-comm, mul-pos, le-of-lt, le-max-left, le-max-right, mod-lt}
 use native.Mathlib.Omega.{arith}
 use mathlib.Core.Bool.{Bool, true, false, cond, Bool·beq}
 use lib.Dec.{T, leb→le, leb, lit≤, lit<}
 use mathlib.Core.Path.{_≡_, refl, sym, ap, _∙_, subst, subst₂}
 use Rattle.angle_laws.proofs.Parts.{prod-low, prod-high, Angle}
 use Rattle.angle_laws.proofs.Fixed.{Near, near-sin, near-cos}
+use Rattle.angle_laws.proofs.Single.{ratio}
 use Rattle.angles.proofs.Ratio.{Slope}
 use Rattle.sines.specs.Steps.{dist, xor, sinFix, cosFix, scan, rest}
 use Rattle.angles.specs.Arc.{minusSize, plusOver, lineTest, turnTest, gridTest}
@@ -157,16 +158,10 @@ module _ (sy sx : Bool) (ny dy nx dx py px : ℕ) (mp : 0 < max (nx * dy) (ny * 
   M = max (nx * dy) (ny * dx)
 
   leY : ny * dx ≤ max (nx * dy) (ny * dx)
-  leY = go (nx * dy) (ny * dx)
-    where
-      go : (a b : ℕ) → b ≤ max a b
-      go a b = omega arith
+  leY = le-max-right (nx * dy) (ny * dx)
 
   leX : nx * dy ≤ max (nx * dy) (ny * dx)
-  leX = go (nx * dy) (ny * dx)
-    where
-      go : (a b : ℕ) → a ≤ max a b
-      go a b = omega arith
+  leX = le-max-left (nx * dy) (ny * dx)
 
   by-line : (ns nc : Bool) (vs vc : ℕ) (ρs ρc : Ratio) → Sized ρs (xor sy ns) vs → Sized ρc nc vc → T (lineTest sx py px ns vs nc vc) → Line sy ny dy sx nx dx ρs ρc
   unfolding lineTest
@@ -189,9 +184,6 @@ module _ (sy sx : Bool) (ny dy nx dx py px : ℕ) (mp : 0 < max (nx * dy) (ny * 
       )
 
 -- ---- by k
-abbrev ratio : Bool → ℕ → ℕ → Ratio
-ratio s t b = record { neg = s; top = t; bot = b }
-
 module _ (A R D : ℕ) (al : A < 17179869184) (dp : 0 < D) (rd : R ≤ D) (an : Angle 17179869184 A D R 2) where
   sS : (s : Bool) → Sized (ratio s (sinTop R D) (sinBot D)) s (sinFix A)
   sS s = record { sign = refl; near = near-sin A D R 2 2 1 (le-of-lt al) rd (lit≤ tt) (lit≤ tt) an 10 (lit≤ tt); small = sin-fix-le A al; some = sin-bot-pos D dp }
@@ -226,13 +218,7 @@ module _ (A R D : ℕ) (al : A < 17179869184) (dp : 0 < D) (rd : R ≤ D) (an : 
   by-turn sx ny dy nx dx py px mp y x true false (suc (suc (suc zero))) h t = by-line true sx ny dy nx dx py px mp y x true false (cosFix A) (sinFix A) _ _ (sC false) (sS false) t
   by-turn sx ny dy nx dx py px mp y x false true (suc (suc (suc zero))) h t = by-line false sx ny dy nx dx py px mp y x true true (cosFix A) (sinFix A) _ _ (sC true) (sS true) t
   by-turn sx ny dy nx dx py px mp y x false false (suc (suc (suc zero))) h t = by-line false sx ny dy nx dx py px mp y x true false (cosFix A) (sinFix A) _ _ (sC true) (sS false) t
-  by-turn sx ny dy nx dx py px mp y x f down (suc (suc (suc (suc k)))) h t = absurd (no k h)
-    where
-      no : (k : ℕ) → suc (suc (suc (suc k))) < 4 → ⊥
-      no k h = omega arith
-
-mod4 : (k : ℕ) → k % 4 < 4
-mod4 k = omega arith
+  by-turn sx ny dy nx dx py px mp y x f down (suc (suc (suc (suc k)))) h t = absurd (omega arith)
 
 pub by-grid : (f sx : Bool) (ny dy nx dx py px n d X : ℕ) → 0 < d → 0 < max (nx * dy) (ny * dx) → Slope py (ny * dx) (max (nx * dy) (ny * dx)) 520 → Slope px (nx * dy) (max (nx * dy) (ny * dx)) 520
     → Reduced f n d X (scan 20 0 X) → T (gridTest sx py px X) → Line f ny dy sx nx dx (sine f n d) (cosine f n d)
@@ -240,4 +226,4 @@ unfolding gridTest
 by-grid f sx ny dy nx dx py px n d X dp mp y x r t =
     let q = scan 20 0 X in
     subst₂ (λ (s c : Ratio). Line f ny dy sx nx dx s c) (sym (sine-at f n d X q r)) (sym (cosine-at f n d X q r))
-    (by-turn (rest q X) (restTop (half q) n d) (restBot d) (r .small) (mul-pos {m = 2 * piBot} (lit< tt) dp) (r .proper) (r .angle) sx ny dy nx dx py px mp y x f (odd q) (half q % 4) (mod4 (half q)) t)
+    (by-turn (rest q X) (restTop (half q) n d) (restBot d) (r .small) (mul-pos {m = 2 * piBot} (lit< tt) dp) (r .proper) (r .angle) sx ny dy nx dx py px mp y x f (odd q) (half q % 4) (mod-lt (half q) (lit< tt)) t)

@@ -2,9 +2,9 @@
 use mathlib.Core.Path.{sym, subst}
 use mathlib.Core.Bool.{Bool, true, false, cond}
 use Prim.Native.Nat.{ℕ, zero, suc, _-_, _*_, _%_, _≤_, _<_}
-use native.Mathlib.Nat.{le-refl, le-trans, le-of-eq, mul-le-mul}
+use native.Mathlib.Nat.{le-refl, le-trans, le-of-eq, mul-le-mul, mul-pos, mod-lt}
 use native.Mathlib.Omega.{arith}
-use lib.Dec.{T, lit≤}
+use lib.Dec.{T, lit≤, lit<}
 use lib.IntN.{ℤ}
 use lib.Ieee.{Float, fin, binary32, up, down, fits}
 use lib.Ieee.Fits.{down-pos}
@@ -55,10 +55,7 @@ module _ (w : Float) (R D : ℕ) (dp : 0 < D) (rd : R ≤ D) (un : R * 1000 ≤ 
   choose-s false false (suc zero) h = near-c false
   choose-s false false (suc (suc zero)) h = near-s true
   choose-s false false (suc (suc (suc zero))) h = near-c true
-  choose-s f s (suc (suc (suc (suc j)))) h = absurd (no j h)
-    where
-      no : (j : ℕ) → suc (suc (suc (suc j))) < 4 → ⊥
-      no j h = omega arith
+  choose-s f s (suc (suc (suc (suc j)))) h = absurd (omega arith)
 
   choose-c : (f s : Bool) (j : ℕ) → j < 4 → closeTo 1048576 (single (cosMinus j s) (cosValue j w)) (pickC (turned f j) (xor f s) R D)
   choose-c true true zero h = near-c false
@@ -77,13 +74,7 @@ module _ (w : Float) (R D : ℕ) (dp : 0 < D) (rd : R ≤ D) (un : R * 1000 ≤ 
   choose-c false false (suc zero) h = near-s true
   choose-c false false (suc (suc zero)) h = near-c true
   choose-c false false (suc (suc (suc zero))) h = near-s false
-  choose-c f s (suc (suc (suc (suc j)))) h = absurd (no j h)
-    where
-      no : (j : ℕ) → suc (suc (suc (suc j))) < 4 → ⊥
-      no j h = omega arith
-
-mod4 : (k : ℕ) → k % 4 < 4
-mod4 k = omega arith
+  choose-c f s (suc (suc (suc (suc j)))) h = absurd (omega arith)
 
 -- ---- the whole way from a = m 2^e
 module _ (m : ℕ) (e : ℤ) (fit : T (fits binary32 (fin false m e))) (hi : m * up e ≤ 16 * down e) (f : Bool) where
@@ -100,7 +91,7 @@ module _ (m : ℕ) (e : ℤ) (fit : T (fits binary32 (fin false m e))) (hi : m *
   got = unfold at in placed m e fit hi .reduced-at f
 
   pos-bot : 0 < restBot (down e)
-  pos-bot = native.Mathlib.Nat.mul-pos {m = 200000000000000000000} (lib.Dec.lit< tt) (down-pos e)
+  pos-bot = mul-pos {m = 200000000000000000000} (lit< tt) (down-pos e)
 
   pub sin-from : closeTo 1048576 (sinFrom f (fin false m e)) (sine f (m * up e) (down e))
   unfolding sinFrom sine at
@@ -112,7 +103,7 @@ module _ (m : ℕ) (e : ℤ) (fit : T (fits binary32 (fin false m e))) (hi : m *
       let r = got in
       subst (λ (k : ℕ). closeTo 1048576 (single (xor f (sinMinus (half q % 4) (odd q))) (sinValue (half q % 4) w)) (pickS (turn f k) (restNeg f k n d) (restTop k n d) (restBot d))) (sym (r .is))
       (subst (λ (b : Bool). closeTo 1048576 (single (xor f (sinMinus (half q % 4) (odd q))) (sinValue (half q % 4) w)) (pickS (turn f (half q)) (xor f b) (restTop (half q) n d) (restBot d))) (sym (r .sign))
-      (choose-s w (restTop (half q) n d) (restBot d) pos-bot (r .proper) (r .under) (rested m e hi q few) f (odd q) (half q % 4) (mod4 (half q))))
+      (choose-s w (restTop (half q) n d) (restBot d) pos-bot (r .proper) (r .under) (rested m e hi q few) f (odd q) (half q % 4) (mod-lt (half q) (lit< tt))))
 
   pub cos-from : closeTo 1048576 (cosFrom (fin false m e)) (cosine f (m * up e) (down e))
   unfolding cosFrom cosine at
@@ -124,4 +115,4 @@ module _ (m : ℕ) (e : ℤ) (fit : T (fits binary32 (fin false m e))) (hi : m *
       let r = got in
       subst (λ (k : ℕ). closeTo 1048576 (single (cosMinus (half q % 4) (odd q)) (cosValue (half q % 4) w)) (pickC (turn f k) (restNeg f k n d) (restTop k n d) (restBot d))) (sym (r .is))
       (subst (λ (b : Bool). closeTo 1048576 (single (cosMinus (half q % 4) (odd q)) (cosValue (half q % 4) w)) (pickC (turn f (half q)) (xor f b) (restTop (half q) n d) (restBot d))) (sym (r .sign))
-      (choose-c w (restTop (half q) n d) (restBot d) pos-bot (r .proper) (r .under) (rested m e hi q few) f (odd q) (half q % 4) (mod4 (half q))))
+      (choose-c w (restTop (half q) n d) (restBot d) pos-bot (r .proper) (r .under) (rested m e hi q few) f (odd q) (half q % 4) (mod-lt (half q) (lit< tt))))

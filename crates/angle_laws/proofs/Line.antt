@@ -1,7 +1,7 @@
 -- The found angle lies on the line through (x, y), on the right side: for each eighth and each sign. Assumes nothing.
 use mathlib.Core.Path.{sym, subst, _≡_, ap, _∙_, subst₂}
 use Prim.Native.Nat.{ℕ, zero, suc, _^_, _<_, _*_, _≤_, _+_, max}
-use native.Mathlib.Nat.{mul-pos, pow-zero, pow-suc, le-trans, mul-assoc, mul-comm, mul-le-mul-right}
+use native.Mathlib.Nat.{mul-pos, pow-zero, pow-suc, le-trans, mul-assoc, mul-comm, mul-le-mul-right, le-max-left, le-max-right}
 use lib.Dec.{lit<}
 use mathlib.Core.Bool.{Bool, true, false}
 use native.Mathlib.Omega.{arith}
@@ -35,7 +35,6 @@ pub record Exact (a c st sb gt gb : ℕ) : Type 0 where
   pub res : dist (a * gt * sb) (c * st * gb) * 262144 ≤ c * gb * sb
   pub g-pos : 0 < gt
   pub sb-pos : 0 < sb
-  pub gb-pos : 0 < gb
 
 -- S and C of ± n / d in the eighth o
 pub sine-at : (f : Bool) (n d X o : ℕ) → Reduced f n d X o → sine f n d ≡ pickS (turn f (half o)) (xor f (odd o)) (restTop (half o) n d) (restBot d)
@@ -56,11 +55,8 @@ dist-comm a b = omega arith
 
 module _ (U W st sb gt gb : ℕ) where
   flat-line : U ≤ W → Exact U W st sb gt gb → dist (U * (gt * sb)) (W * (st * gb)) * 262144 ≤ max W U * (gb * sb)
-  flat-line h x = go (x .res) (mul-le-mul-right (gb * sb) (le-max W U))
+  flat-line h x = go (x .res) (mul-le-mul-right (gb * sb) (le-max-left W U))
     where
-      le-max : (W U : ℕ) → W ≤ max W U
-      le-max W U = omega arith
-
       go : dist (U * gt * sb) (W * st * gb) * 262144 ≤ W * gb * sb → W * (gb * sb) ≤ max W U * (gb * sb) → dist (U * (gt * sb)) (W * (st * gb)) * 262144 ≤ max W U * (gb * sb)
       go f g = le-trans (subst₂ (λ (p q : ℕ). dist p q * 262144 ≤ W * (gb * sb)) (mul-assoc U gt sb) (mul-assoc W st gb) (subst (λ (z : ℕ). dist (U * gt * sb) (W * st * gb) * 262144 ≤ z) (mul-assoc W gb sb) f)) g
 
@@ -71,10 +67,7 @@ module _ (U W st sb gt gb : ℕ) where
       go p q h = omega arith
 
   steep-line : W ≤ U → Exact W U st sb gt gb → dist (U * (st * gb)) (W * (gt * sb)) * 262144 ≤ max W U * (sb * gb)
-  steep-line h x = le-trans (subst (λ (z : ℕ). z * 262144 ≤ U * (sb * gb)) (dist-comm (W * (gt * sb)) (U * (st * gb))) (subst₂ (λ (p q : ℕ). dist p q * 262144 ≤ U * (sb * gb)) (mul-assoc W gt sb) (mul-assoc U st gb) (subst (λ (z : ℕ). dist (W * gt * sb) (U * st * gb) * 262144 ≤ z) (mul-assoc U gb sb ∙ ap (λ (z : ℕ). U * z) (mul-comm gb sb)) (x .res)))) (mul-le-mul-right (sb * gb) (le-max W U))
-    where
-      le-max : (W U : ℕ) → U ≤ max W U
-      le-max W U = omega arith
+  steep-line h x = le-trans (subst (λ (z : ℕ). z * 262144 ≤ U * (sb * gb)) (dist-comm (W * (gt * sb)) (U * (st * gb))) (subst₂ (λ (p q : ℕ). dist p q * 262144 ≤ U * (sb * gb)) (mul-assoc W gt sb) (mul-assoc U st gb) (subst (λ (z : ℕ). dist (W * gt * sb) (U * st * gb) * 262144 ≤ z) (mul-assoc U gb sb ∙ ap (λ (z : ℕ). U * z) (mul-comm gb sb)) (x .res)))) (mul-le-mul-right (sb * gb) (le-max-right W U))
 
   steep-forward : 0 < U → Exact W U st sb gt gb → 0 < W * (st * gb) + U * (gt * sb)
   steep-forward h x = go (W * (st * gb)) (U * (gt * sb)) (mul-pos h (mul-pos (x .g-pos) (x .sb-pos)))
@@ -100,7 +93,6 @@ module _ (f : Bool) (o t a c n d : ℕ) (ho : o < 4) (dp : 0 < d) (sl : Slope t 
         res = residual t a c j R D so sl ac tl (red .proper) here next;
         g-pos = cos-positive t a c j R D so sl ac tl (red .proper) here next (cos-bot-pos D dp');
         sb-pos = sin-bot-pos D dp';
-        gb-pos = cos-bot-pos D dp';
       }
 
   pub s-is : sine f n d ≡ pickS (turn f (half o)) (xor f (odd o)) (restTop (half o) n d) (restBot d)

@@ -2,7 +2,7 @@
 -- that satisfy t cos ≥ 2^31 sin, and another pair, near the same s and g, that does not, bound |a g - c s| by 2^-18 c. Assumes nothing.
 use mathlib.Core.Path.{_≡_, refl, sym, subst, subst₂}
 use Prim.Native.Nat.{ℕ, _+_, _*_, _≤_, _-_, _/_, _<_}
-use native.Mathlib.Nat.{mul-le-mul-left, mul-le-mul-right, mul-le-mul, le-of-mul-le-mul-left, div-le-of-le-mul, le-trans, le-of-lt}
+use native.Mathlib.Nat.{mul-le-mul-left, mul-le-mul-right, mul-le-mul, le-of-mul-le-mul-left, div-le-of-le-mul, le-trans, le-of-lt, le-add-right}
 use native.Mathlib.Omega.{arith}
 use lib.Dec.{lit<, lit≤}
 use mathlib.Core.List.{_∷_, []}
@@ -161,10 +161,7 @@ module _ (t a c j R D : ℕ) (so : Sought t j) (sl : Slope t a c 520) (ac : a �
 
   up : (j + 1 ≡ 13176795) ⊎ (t * cosFix ((j + 1) * 1024) < 2147483648 * sinFix ((j + 1) * 1024)) → t * cosFix ((j + 1) * 1024) ≤ 2147483648 * sinFix ((j + 1) * 1024) + 2147483648 * 400
   up (inl e) = at-last t j tl e
-  up (inr l) = le-trans (le-of-lt l) (le-add _ _)
-    where
-      le-add : (a b : ℕ) → a ≤ a + b
-      le-add a b = omega arith
+  up (inr l) = le-trans (le-of-lt l) (le-add-right _ _)
 
   -- |a c(r) - c s(r)| ≤ 2^-18 c
   pub residual : dist (a * cosTop R D * sinBot D) (c * sinTop R D * cosBot D) * 262144 ≤ c * cosBot D * sinBot D

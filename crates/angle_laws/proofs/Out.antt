@@ -79,7 +79,4 @@ angle-out zero j ho hj = out _ j 16777216 1 j (exact j 23 (omega arith) (lit≤ 
 angle-out (suc zero) j ho hj = out _ (13176794 - (min j 13176792 + 1) / 2) 8388608 2 _ (exact (13176794 - (min j 13176792 + 1) / 2) 22 (omega arith) (lit≤ tt)) refl (mul-comm (13176794 - (min j 13176792 + 1) / 2) 2) (omega arith)
 angle-out (suc (suc zero)) j ho hj = out _ (6588398 + min j 13176788 / 4) 4194304 4 _ (exact (6588398 + min j 13176788 / 4) 21 (omega arith) (lit≤ tt)) refl (mul-comm (6588398 + min j 13176788 / 4) 4) (omega arith)
 angle-out (suc (suc (suc zero))) j ho hj = out _ (13176794 - (min j 13176788 + 3) / 4) 4194304 4 _ (exact (13176794 - (min j 13176788 + 3) / 4) 21 (omega arith) (lit≤ tt)) refl (mul-comm (13176794 - (min j 13176788 + 3) / 4) 4) (omega arith)
-angle-out (suc (suc (suc (suc o)))) j ho hj = absurd (no o ho)
-  where
-    no : (o : ℕ) → suc (suc (suc (suc o))) < 4 → ⊥
-    no o h = omega arith
+angle-out (suc (suc (suc (suc o)))) j ho hj = absurd (omega arith)

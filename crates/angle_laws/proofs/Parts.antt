@@ -1,7 +1,7 @@
 -- From a fixed-point angle to the square that `Horner.nested` takes, and from its result to the sine. Over any fraction R / D that the angle is near to. Assumes nothing.
 use Prim.Native.Nat.{ℕ, _+_, _*_, _≤_, _/_, _<_}
 use mathlib.Core.Path.{_≡_, sym, ap}
-use native.Mathlib.Nat.{mul-le-mul-left, mul-le-mul-right, le-trans, le-of-eq, mul-le-mul, le-of-mul-le-mul-left, div-mul-le-self, lt-div-mul-add, div-le-of-le-mul, mul-comm}
+use native.Mathlib.Nat.{mul-le-mul-left, mul-le-mul-right, le-trans, le-of-eq, le-of-lt, mul-le-mul, le-of-mul-le-mul-left, div-mul-le-self, lt-div-mul-add, div-le-of-le-mul, mul-comm}
 use native.Mathlib.Omega.{arith}
 use Rattle.angle_laws.proofs.Horner.{Square, Close}
 
@@ -62,7 +62,7 @@ pub square : (B A D R e P K w : ℕ) → 0 < K → 0 < P → P * K ≡ B * B →
 square B A D R e P K w kp pp pk ab rd we h =
     let T = A * A / K in
     let t1 : T * K ≤ A * A = div-mul-le-self (A * A) K in
-    let t2 : A * A ≤ T * K + K = suc-le (A * A) (T * K + K) (lt-div-mul-add kp) in
+    let t2 : A * A ≤ T * K + K = le-of-lt (lt-div-mul-add kp) in
     let a1 : T * K * (D * D) ≤ A * A * (D * D) = mul-le-mul-right (D * D) t1 in
     let a2 : A * A * (D * D) ≤ (T * K + K) * (D * D) = mul-le-mul-right (D * D) t2 in
     let w1 : 2 * e * B * (D * D) ≤ w * K * (D * D) = mul-le-mul-right (D * D) we in
@@ -75,9 +75,6 @@ square B A D R e P K w kp pp pk ab rd we h =
       high = le-of-mul-le-mul-left (fin2 T (D * D) (R * R) (A * A * (D * D)) (B * B * (R * R)) (2 * e * B * (D * D)) a2 (sq-high B A D R e ab rd (h .high)) w1 b1) kp;
     }
   where
-    suc-le : (a b : ℕ) → a < b → a ≤ b
-    suc-le a b h = omega arith
-
     fin1 : (T D2 R2 x y z : ℕ) → T * K * D2 ≤ x → x ≤ y + z → z ≤ w * K * D2 → P * K * R2 ≡ y → K * (T * D2) ≤ K * (P * R2 + (w + 1) * D2)
     fin1 T D2 R2 x y z f g h i = omega arith
 
@@ -129,16 +126,13 @@ pub product : (L A D R e P H Q N E K O : ℕ) → 0 < K → L * P ≡ K * O → 
 product L A D R e P H Q N E K O kp lp a c =
     let Z = A * H / K in
     let v1 : Z * K ≤ A * H = div-mul-le-self (A * H) K in
-    let v2 : A * H ≤ Z * K + K = suc-le (A * H) (Z * K + K) (lt-div-mul-add kp) in
+    let v2 : A * H ≤ Z * K + K = le-of-lt (lt-div-mul-add kp) in
     let b1 : L * P * (R * N) ≡ K * O * (R * N) = ap (λ (z : ℕ). z * (R * N)) lp in
     record {
       low = fin1 Z (D * Q) _ _ _ _ (mul-le-mul-right (D * Q) v1) (prod-low L A D R e P H Q N E (c .below-one) (a .low) (c .low)) b1;
       high = fin2 Z (D * Q) _ _ _ _ (mul-le-mul-right (D * Q) v2) (prod-high L A D R e P H Q N E (c .below-one) (a .high) (c .high)) b1;
     }
   where
-    suc-le : (a b : ℕ) → a < b → a ≤ b
-    suc-le a b h = omega arith
-
     fin1 : (Z W x y z u : ℕ) → Z * K * W ≤ x → x ≤ y + u → y ≡ z → K * Z * W ≤ z + u
     fin1 Z W x y z u f g h = omega arith
 

@@ -22,10 +22,7 @@ at zero j ho hj = (inl refl, (omega arith, (omega arith, omega arith)))
 at (suc zero) j ho hj = (inr (omega arith), (omega arith, (omega arith, omega arith)))
 at (suc (suc zero)) j ho hj = (inr (omega arith), (omega arith, (omega arith, omega arith)))
 at (suc (suc (suc zero))) j ho hj = (inr (omega arith), (omega arith, (omega arith, omega arith)))
-at (suc (suc (suc (suc o)))) j ho hj = absurd (no o ho)
-  where
-    no : (o : ℕ) → suc (suc (suc (suc o))) < 4 → ⊥
-    no o h = omega arith
+at (suc (suc (suc (suc o)))) j ho hj = absurd (omega arith)
 
 scale : (N n d : ℕ) → N * d ≡ 16777216 * n → N * 65536 * d ≡ 1099511627776 * n
 scale N n d h = omega arith

@@ -18,6 +18,10 @@ use Rattle.angle_laws.proofs.Small.{k0, rest0, sign0, proper0, under0}
 use Rattle.angle_laws.proofs.Input.{whole, digits, down-le, pos-of}
 use Rattle.angle_laws.proofs.Reduce.{Reduced, reduced}
 
+-- below 2^-12
+little : (n d : ℕ) → 4096 * n < d → 1099511627776 * n ≤ 268435456 * d
+little n d h = omega arith
+
 small-reduced : (f : Bool) (n d X : ℕ) → 0 < d → 4096 * n < d → X * d ≤ 1099511627776 * n → 1099511627776 * n ≤ X * d + d → Reduced f n d X 0
 small-reduced f n d X dp h lo hi = record {
   is = k0 n d dp h f;
@@ -26,7 +30,7 @@ small-reduced f n d X dp h lo hi = record {
       (record { low = low piBot ((X * 256 - 0) / 16384) (cut X) lo; high = high piBot ((X * 256 - 0) / 16384) (cut' X) hi });
   proper = subst (λ (z : ℕ). z ≤ 2 * piBot * d) (sym (rest0 n d dp h)) (proper0 n d dp h);
   under = subst (λ (z : ℕ). z * 1000 ≤ 786 * (2 * piBot * d)) (sym (rest0 n d dp h)) (under0 n d dp h);
-  small = few X (le-of-mul-le-mul-right (le-trans lo (big n d h)) dp);
+  small = few X (le-of-mul-le-mul-right (le-trans lo (little n d h)) dp);
 }
   where
     cut : (X : ℕ) → (X * 256 - 0) / 16384 * 64 ≤ X
@@ -49,9 +53,6 @@ small-reduced f n d X dp h lo hi = record {
 
         go : t * (1099511627776 * n) ≤ t * ((A * 64 + 64) * d) → 17179869184 * (2 * t * n) ≤ A * (2 * t * d) + 2 * (2 * t * d)
         go f = omega arith
-
-    big : (n d : ℕ) → 4096 * n < d → 1099511627776 * n ≤ 268435456 * d
-    big n d h = omega arith
 
     few : (X : ℕ) → X ≤ 268435456 → (X * 256 - 0) / 16384 < 17179869184
     few X h = omega arith
@@ -85,12 +86,9 @@ placed m e t h = go (ltb (4096 * (m * up e)) (down e)) (ltb→lt (4096 * (m * up
     less : (x y : ℕ) → x ≤ 268435456 → x ≤ 863554413089
     less x y h = omega arith
 
-    big : (n d : ℕ) → 4096 * n < d → 1099511627776 * n ≤ 268435456 * d
-    big n d h = omega arith
-
     go : (b : Bool) → (T b → 4096 * (m * up e) < down e) → (T (not b) → down e ≤ 4096 * (m * up e)) → Placed m e
     go true y n =
-        let at : scan 20 0 X ≡ 0 = scan-stop 0 X (lit< tt) (less X 0 (le-of-mul-le-mul-right (le-trans lo (big (m * up e) (down e) (y tt))) dp)) in
+        let at : scan 20 0 X ≡ 0 = scan-stop 0 X (lit< tt) (less X 0 (le-of-mul-le-mul-right (le-trans lo (little (m * up e) (down e) (y tt))) dp)) in
         record { reduced-at = λ (f : Bool). subst (λ (q : ℕ). Reduced f (m * up e) (down e) X q) (sym at) (small-reduced f (m * up e) (down e) X dp (y tt) lo hi); small = xl }
     go false y n =
         let ml : m < 2 ^ 24 = digits m e t (pos-of m (up e) (down e) dp (n tt)) in

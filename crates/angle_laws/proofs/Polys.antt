@@ -2,7 +2,7 @@
 use mathlib.Core.Path.{_≡_, refl, sym, ap, _∙_, subst}
 use mathlib.Core.Bool.{false}
 use Prim.Native.Nat.{ℕ, _+_, _-_, _*_, _≤_, _<_}
-use native.Mathlib.Nat.{sub-add-cancel, add-le-add, add-right-cancel, le-refl, le-trans, le-of-eq, sub-le, mul-one, one-mul, mul-pos, mul-le-mul, mul-le-mul-left, mul-le-mul-right, le-of-mul-le-mul-right}
+use native.Mathlib.Nat.{sub-add-cancel, add-le-add, add-right-cancel, le-add-right, le-refl, le-trans, le-of-eq, sub-le, mul-one, one-mul, mul-pos, mul-le-mul, mul-le-mul-left, mul-le-mul-right, le-of-mul-le-mul-right}
 use native.Mathlib.Omega.{arith}
 use lib.Dec.{T, lit<, lit≤}
 use lib.IntN.{ℤ, pos, negsuc}
@@ -367,16 +367,13 @@ module _ (w : Float) (R D : ℕ) (dp : 0 < D) (un : R * 1000 ≤ 786 * D) (a : A
 
   -- the two numerators: at least half of the denominator, and little
   most : 2147483660 * (D * D * (D * D)) ≤ h₁ * (D * D) + R * R * (R * R) * 178956785
-  most = le-trans (le-of-eq (o1 (D * D))) (le-trans (mul-le-mul-right (D * D) (o2 (R * R) (D * D) h₁ sp h₁-is)) (o3 (h₁ * (D * D)) (R * R * (R * R) * 178956785)))
+  most = le-trans (le-of-eq (o1 (D * D))) (le-trans (mul-le-mul-right (D * D) (o2 (R * R) (D * D) h₁ sp h₁-is)) (le-add-right (h₁ * (D * D)) (R * R * (R * R) * 178956785)))
     where
       o1 : (p : ℕ) → 2147483660 * (p * p) ≡ 2147483660 * p * p
       o1 p = omega arith
 
       o2 : (s p h : ℕ) → s ≤ p → h + s * 2147483636 ≡ p * 4294967296 → 2147483660 * p ≤ h
       o2 s p h a b = omega arith
-
-      o3 : (x y : ℕ) → x ≤ x + y
-      o3 x y = omega arith
 
   little : R * R * (R * R) * (R * R) * h₃ ≤ 5964320 * (D * D * (D * D) * (D * D) * (D * D))
   little = le-trans (mul-le-mul s3 h₃-le) (le-of-eq (o (D * D)))

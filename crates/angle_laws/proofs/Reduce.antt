@@ -2,7 +2,7 @@
 use Prim.Native.Nat.{ℕ, suc, _*_, _<_, _+_, _≤_, _-_, _/_, _%_, zero, zero-le}
 use lib.Dec.{ltb, ltb→lt, leb, leb→le, lit≤, lit<, eqb}
 use mathlib.Core.Path.{_≡_, ap, sym, _∙_, subst, subst₂}
-use native.Mathlib.Nat.{mul-lt-mul-of-pos-right, lt-of-mul-lt-mul-left, mul-le-mul-right, div-eq-of-lt-le, div-mul-le-self, le-of-mul-le-mul-left, mul-pos, le-of-mul-le-mul-right, zero-mul, suc-mul, add-zero, le-trans, le-of-eq}
+use native.Mathlib.Nat.{mul-lt-mul-of-pos-right, lt-of-mul-lt-mul-left, mul-le-mul-right, div-eq-of-lt-le, div-mul-le-self, le-of-mul-le-mul-left, mul-pos, le-of-mul-le-mul-right, zero-mul, suc-mul, add-zero, le-trans, le-of-eq, le-of-lt}
 use native.Mathlib.Omega.{arith}
 use mathlib.Core.Bool.{Bool, true, false, cond, not}
 use mathlib.Core.Logic.{_⊎_, inl, inr}
@@ -212,7 +212,7 @@ module _ (neg : Bool) (n d X k : ℕ) (dp : 0 < d) (e : X * d ≡ 1099511627776 
       let r0 : q % 2 ≡ 0 = par q k qe in
       let hk : half q ≡ k = hal q k qe in
       let lo' : 2 * k * (piTop * d) < 4 * piBot * n + piTop * d = lt1 _ _ _ lo wp in
-      let sm : 2 * restTop k n d ≤ piTop * d = rest-small n d k (le1 _ _ lo') (le1 _ _ hi) in
+      let sm : 2 * restTop k n d ≤ piTop * d = rest-small n d k (le-of-lt lo') (le-of-lt hi) in
       let ge : k * (piTop * d) ≤ 2 * piBot * n = halve k (piTop * d) piBot n lo in
       let an = angle-up X n d k b dp e (times b k piTop piBot d 281474976710656 (base-over (2 * k) h22)) (times' (b + 2) k piTop piBot d 281474976710656 (base-under (2 * k) h22)) ge .1 in
       let re : rest q X ≡ (X * 256 - b) / 16384 = ap (λ (z : ℕ). cond (eqb z 0) (X * 256 - base (q + z)) (base (q + z) - X * 256) / 16384) r0 ∙ ap (λ (z : ℕ). (X * 256 - base z) / 16384) (plus q k qe) in
@@ -237,9 +237,6 @@ module _ (neg : Bool) (n d X k : ℕ) (dp : 0 < d) (e : X * d ≡ 1099511627776 
       lt1 : (a b c : ℕ) → a ≤ b → 0 < c → a < b + c
       lt1 a b c x y = omega arith
 
-      le1 : (a b : ℕ) → a < b → a ≤ b
-      le1 a b x = omega arith
-
   -- q = 2 k - 1
   when-odd : (q : ℕ) → q + 1 ≡ 2 * k → q < 21 → X ≤ bound (2 * k) → 2 * k * (piTop * d) < 4 * piBot * n + piTop * d → 4 * piBot * n < 2 * k * (piTop * d) → Reduced neg n d X q
   when-odd q qe hq xb lo hi =
@@ -248,9 +245,9 @@ module _ (neg : Bool) (n d X k : ℕ) (dp : 0 < d) (e : X * d ≡ 1099511627776 
       let r1 : q % 2 ≡ 1 = par q k qe in
       let hk : half q ≡ k = hal q k qe in
       let hi' : 4 * piBot * n < 2 * k * (piTop * d) + piTop * d = lt1 _ _ _ hi in
-      let sm : 2 * restTop k n d ≤ piTop * d = rest-small n d k (le1 _ _ lo) (le1 _ _ hi') in
+      let sm : 2 * restTop k n d ≤ piTop * d = rest-small n d k (le-of-lt lo) (le-of-lt hi') in
       let lt : 2 * piBot * n < k * (piTop * d) = halve' k (piTop * d) piBot n hi in
-      let an = angle-down X n d k b dp e (times b k piTop piBot d 281474976710656 (base-over (2 * k) h22)) (times' (b + 2) k piTop piBot d 281474976710656 (base-under (2 * k) h22)) (le1 _ _ lt) (wide X (2 * k * Q58) xb) in
+      let an = angle-down X n d k b dp e (times b k piTop piBot d 281474976710656 (base-over (2 * k) h22)) (times' (b + 2) k piTop piBot d 281474976710656 (base-under (2 * k) h22)) (le-of-lt lt) (wide X (2 * k * Q58) xb) in
       let re : rest q X ≡ (b - X * 256) / 16384 = ap (λ (z : ℕ). cond (eqb z 0) (X * 256 - base (q + z)) (base (q + z) - X * 256) / 16384) r1 ∙ ap (λ (z : ℕ). (base z - X * 256) / 16384) qe in
       record {
         is = nearest neg n d k dp lo hi' ∙ sym hk;
@@ -270,9 +267,6 @@ module _ (neg : Bool) (n d X k : ℕ) (dp : 0 < d) (e : X * d ≡ 1099511627776 
       lt1 : (a b c : ℕ) → a < b → a < b + c
       lt1 a b c x = omega arith
 
-      le1 : (a b : ℕ) → a < b → a ≤ b
-      le1 a b x = omega arith
-
       wide : (x j : ℕ) → x ≤ j / 262144 → x * 256 ≤ j / 1024
       wide x j h = omega arith
 
@@ -288,14 +282,8 @@ reduced neg n d X q dp e hq lo hi = go q (q / 2) (q % 2) (split q) (lt2 q) hq lo
     lows : (j : ℕ) → j < 21 → (j ≡ 0) ⊎ (bound j < X) → j * (piTop * d) ≤ 4 * piBot * n
     lows zero hj (inl z) = le-trans (le-of-eq (zero-mul (piTop * d))) zero-le
     lows zero hj (inr z) = le-trans (le-of-eq (zero-mul (piTop * d))) zero-le
-    lows (suc j) hj (inl z) = absurd (no j z)
-      where
-        no : (j : ℕ) → suc j ≡ 0 → ⊥
-        no j z = omega arith
-    lows (suc j) hj (inr z) = le1 _ _ (low X n d j dp e (le1 _ _ hj) z)
-      where
-        le1 : (a b : ℕ) → suc a ≤ b → a ≤ b
-        le1 a b x = omega arith
+    lows (suc j) hj (inl z) = absurd (omega arith)
+    lows (suc j) hj (inr z) = le-of-lt (low X n d j dp e (le-of-lt hj) z)
 
     go : (q k p : ℕ) → q ≡ 2 * k + p → p < 2 → q < 21 → (q ≡ 0) ⊎ (bound q < X) → X ≤ bound (suc q) → Reduced neg n d X q
     go q k zero qe hp hq lo hi =

@@ -3,7 +3,7 @@ use mathlib.Core.Path.{_≡_, refl, sym, ap, ap₂, _∙_, subst}
 use mathlib.Core.Bool.{Bool, true, false, not, cond, true≢false}
 use mathlib.Core.Logic.{_⊎_, inl, inr}
 use Prim.Native.Nat.{ℕ, zero, suc, _+_, _-_, _*_, _^_, _≤_, _<_}
-use native.Mathlib.Nat.{mul-comm, mul-sub, add-le-add, le-refl, le-trans, le-of-eq, le-of-lt, mul-one, mul-pos, mul-le-mul-left, mul-le-mul-right, le-of-mul-le-mul-right, zero-lt-suc}
+use native.Mathlib.Nat.{mul-comm, mul-assoc, mul-sub, add-le-add, le-add-right, le-refl, le-trans, le-of-eq, le-of-lt, mul-one, mul-pos, mul-le-mul-left, mul-le-mul-right, le-of-mul-le-mul-right, zero-lt-suc}
 use native.Mathlib.Omega.{arith}
 use lib.Dec.{T, ltb, ltb→lt, nltb→le, eqb→eq, lit<, lit≤}
 use lib.Pow.{pow-pos}
@@ -40,16 +40,13 @@ product (fin false m e) N h v =
 
     -- q 2^50 · 4 piBot ≤ piTop 2^50
     low : (x d t b : ℕ) → x ≡ N * d → N * d * (884279719003555 * (4 * b)) ≤ N * d * (t * 1125899906842624) → x * 884279719003555 * (4 * b) * K ≤ N * t * (d * 1125899906842624) * K + 1 * (d * 1125899906842624 * (4 * b))
-    low x d t b q k = le-trans (le-of-eq (f1 ∙ ap (λ (z : ℕ). z * (884279719003555 * (4 * b)) * K) q)) (le-trans (mul-le-mul-right K k) (le-trans (le-of-eq f2) (more (N * t * (d * 1125899906842624) * K) (1 * (d * 1125899906842624 * (4 * b))))))
+    low x d t b q k = le-trans (le-of-eq (f1 ∙ ap (λ (z : ℕ). z * (884279719003555 * (4 * b)) * K) q)) (le-trans (mul-le-mul-right K k) (le-trans (le-of-eq f2) (le-add-right (N * t * (d * 1125899906842624) * K) (1 * (d * 1125899906842624 * (4 * b))))))
       where
         f1 : x * 884279719003555 * (4 * b) * K ≡ x * (884279719003555 * (4 * b)) * K
         f1 = omega arith
 
         f2 : N * d * (t * 1125899906842624) * K ≡ N * t * (d * 1125899906842624) * K
         f2 = omega arith
-
-        more : (u v : ℕ) → u ≤ u + v
-        more u v = omega arith
 
     -- piTop 2^50 K ≤ q 2^50 4 piBot K + 2^50 4 piBot / 22
     high : (x d t b : ℕ) → x ≡ N * d → N * d * (t * 1125899906842624 * K) ≤ N * d * (884279719003555 * (4 * b) * K + 1000000000000 * b) → N * (d * b) ≤ 22 * (d * b) → N * t * (d * 1125899906842624) * K ≤ x * 884279719003555 * (4 * b) * K + 1 * (d * 1125899906842624 * (4 * b))
@@ -90,29 +87,26 @@ dist-mul a b c = go (ltb a b) (ltb→lt a b) (nltb→le a b)
 
 -- x = A / B exactly, y = A' / B' about N' / D'
 module _ (A B A' B' N' D' f : ℕ) (lo : A' * D' * K ≤ N' * B' * K + f * (B' * D')) (hi : N' * B' * K ≤ A' * D' * K + f * (B' * D')) where
+  e2 : A * B' * (B * D' * K) ≡ A * D' * (B * B' * K)
+  e2 = omega arith
+
+  e3 : A' * B * (B * D' * K) ≡ A' * D' * K * (B * B)
+  e3 = omega arith
+
+  e4 : (N' * B' * K + f * (B' * D')) * (B * B) ≡ N' * B * (B * B' * K) + f * (B * B' * (B * D'))
+  e4 = omega arith
+
+  e5 : N' * B * (B * B' * K) ≡ N' * B' * K * (B * B)
+  e5 = omega arith
+
+  e6 : (A' * D' * K + f * (B' * D')) * (B * B) ≡ A' * B * (B * D' * K) + f * (B * B' * (B * D'))
+  e6 = omega arith
+
   far-low : dist (A * B') (A' * B) * (B * D') * K ≤ dist (A * D') (N' * B) * (B * B') * K + f * (B * B' * (B * D'))
-  far-low = le-trans (le-of-eq (e1 ∙ sym (dist-mul (A * B') (A' * B) (B * D' * K)))) (le-trans (dist-le (A * B' * (B * D' * K)) (A' * B * (B * D' * K)) (A * D' * (B * B' * K)) (N' * B * (B * B' * K)) 0 (f * (B * B' * (B * D'))) (le-trans (le-of-eq e2) (more _)) (le-trans (le-of-eq (sym e2)) (more _)) (le-trans (le-of-eq e3) (le-trans (mul-le-mul-right (B * B) lo) (le-of-eq e4))) (le-trans (le-of-eq e5) (le-trans (mul-le-mul-right (B * B) hi) (le-of-eq e6)))) (le-of-eq (ap (λ (z : ℕ). z + (0 + f * (B * B' * (B * D')))) (dist-mul (A * D') (N' * B) (B * B' * K)) ∙ e7)))
+  far-low = le-trans (le-of-eq (e1 ∙ sym (dist-mul (A * B') (A' * B) (B * D' * K)))) (le-trans (dist-le (A * B' * (B * D' * K)) (A' * B * (B * D' * K)) (A * D' * (B * B' * K)) (N' * B * (B * B' * K)) 0 (f * (B * B' * (B * D'))) (le-trans (le-of-eq e2) (le-add-right _ 0)) (le-trans (le-of-eq (sym e2)) (le-add-right _ 0)) (le-trans (le-of-eq e3) (le-trans (mul-le-mul-right (B * B) lo) (le-of-eq e4))) (le-trans (le-of-eq e5) (le-trans (mul-le-mul-right (B * B) hi) (le-of-eq e6)))) (le-of-eq (ap (λ (z : ℕ). z + (0 + f * (B * B' * (B * D')))) (dist-mul (A * D') (N' * B) (B * B' * K)) ∙ e7)))
     where
-      more : (x : ℕ) → x ≤ x + 0
-      more x = omega arith
-
       e1 : dist (A * B') (A' * B) * (B * D') * K ≡ dist (A * B') (A' * B) * (B * D' * K)
-      e1 = native.Mathlib.Nat.mul-assoc (dist (A * B') (A' * B)) (B * D') K
-
-      e2 : A * B' * (B * D' * K) ≡ A * D' * (B * B' * K)
-      e2 = omega arith
-
-      e3 : A' * B * (B * D' * K) ≡ A' * D' * K * (B * B)
-      e3 = omega arith
-
-      e4 : (N' * B' * K + f * (B' * D')) * (B * B) ≡ N' * B * (B * B' * K) + f * (B * B' * (B * D'))
-      e4 = omega arith
-
-      e5 : N' * B * (B * B' * K) ≡ N' * B' * K * (B * B)
-      e5 = omega arith
-
-      e6 : (A' * D' * K + f * (B' * D')) * (B * B) ≡ A' * B * (B * D' * K) + f * (B * B' * (B * D'))
-      e6 = omega arith
+      e1 = mul-assoc (dist (A * B') (A' * B)) (B * D') K
 
       e7 : dist (A * D') (N' * B) * (B * B' * K) + (0 + f * (B * B' * (B * D'))) ≡ dist (A * D') (N' * B) * (B * B') * K + f * (B * B' * (B * D'))
       e7 = go (dist (A * D') (N' * B))
@@ -121,28 +115,10 @@ module _ (A B A' B' N' D' f : ℕ) (lo : A' * D' * K ≤ N' * B' * K + f * (B' *
           go z = omega arith
 
   far-high : dist (A * D') (N' * B) * (B * B') * K ≤ dist (A * B') (A' * B) * (B * D') * K + f * (B * B' * (B * D'))
-  far-high = le-trans (le-of-eq (e1 ∙ sym (dist-mul (A * D') (N' * B) (B * B' * K)))) (le-trans (dist-le (A * D' * (B * B' * K)) (N' * B * (B * B' * K)) (A * B' * (B * D' * K)) (A' * B * (B * D' * K)) 0 (f * (B * B' * (B * D'))) (le-trans (le-of-eq (sym e2)) (more _)) (le-trans (le-of-eq e2) (more _)) (le-trans (le-of-eq e5) (le-trans (mul-le-mul-right (B * B) hi) (le-of-eq e6))) (le-trans (le-of-eq e3) (le-trans (mul-le-mul-right (B * B) lo) (le-of-eq e4)))) (le-of-eq (ap (λ (z : ℕ). z + (0 + f * (B * B' * (B * D')))) (dist-mul (A * B') (A' * B) (B * D' * K)) ∙ e7)))
+  far-high = le-trans (le-of-eq (e1 ∙ sym (dist-mul (A * D') (N' * B) (B * B' * K)))) (le-trans (dist-le (A * D' * (B * B' * K)) (N' * B * (B * B' * K)) (A * B' * (B * D' * K)) (A' * B * (B * D' * K)) 0 (f * (B * B' * (B * D'))) (le-trans (le-of-eq (sym e2)) (le-add-right _ 0)) (le-trans (le-of-eq e2) (le-add-right _ 0)) (le-trans (le-of-eq e5) (le-trans (mul-le-mul-right (B * B) hi) (le-of-eq e6))) (le-trans (le-of-eq e3) (le-trans (mul-le-mul-right (B * B) lo) (le-of-eq e4)))) (le-of-eq (ap (λ (z : ℕ). z + (0 + f * (B * B' * (B * D')))) (dist-mul (A * B') (A' * B) (B * D' * K)) ∙ e7)))
     where
-      more : (x : ℕ) → x ≤ x + 0
-      more x = omega arith
-
       e1 : dist (A * D') (N' * B) * (B * B') * K ≡ dist (A * D') (N' * B) * (B * B' * K)
-      e1 = native.Mathlib.Nat.mul-assoc (dist (A * D') (N' * B)) (B * B') K
-
-      e2 : A * B' * (B * D' * K) ≡ A * D' * (B * B' * K)
-      e2 = omega arith
-
-      e3 : A' * B * (B * D' * K) ≡ A' * D' * K * (B * B)
-      e3 = omega arith
-
-      e4 : (N' * B' * K + f * (B' * D')) * (B * B) ≡ N' * B * (B * B' * K) + f * (B * B' * (B * D'))
-      e4 = omega arith
-
-      e5 : N' * B * (B * B' * K) ≡ N' * B' * K * (B * B)
-      e5 = omega arith
-
-      e6 : (A' * D' * K + f * (B' * D')) * (B * B) ≡ A' * B * (B * D' * K) + f * (B * B' * (B * D'))
-      e6 = omega arith
+      e1 = mul-assoc (dist (A * D') (N' * B)) (B * B') K
 
       e7 : dist (A * B') (A' * B) * (B * D' * K) + (0 + f * (B * B' * (B * D'))) ≡ dist (A * B') (A' * B) * (B * D') * K + f * (B * B' * (B * D'))
       e7 = go (dist (A * B') (A' * B))

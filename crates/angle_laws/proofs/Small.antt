@@ -1,7 +1,7 @@
 -- Below 2^-12 the sine is x itself and the cosine 1: both well within 2^-20 of S and C. Assumes nothing.
 use mathlib.Core.Path.{_≡_, ap, refl, sym, _∙_, subst, subst₂}
 use Prim.Native.Nat.{ℕ, _+_, _*_, _≤_, _<_, zero-le}
-use native.Mathlib.Nat.{mul-le-mul-left, mul-le-mul, le-trans, le-of-eq, lt-of-le-of-lt, zero-mul, mul-le-mul-right, mul-lt-mul-of-pos-left, mul-pos, mul-assoc}
+use native.Mathlib.Nat.{mul-le-mul-left, mul-le-mul, le-trans, le-of-eq, le-of-lt, lt-of-le-of-lt, zero-mul, mul-le-mul-right, mul-lt-mul-of-pos-left, mul-pos, mul-assoc}
 use native.Mathlib.Omega.{arith}
 use mathlib.Core.Bool.{Bool, true, false}
 use mathlib.Core.List.{List, _∷_, []}
@@ -51,9 +51,6 @@ cube-small n d r s h k = go (mul-le-mul h k)
     go : 4096 * n * (16777216 * r) ≤ d * s → 1048576 * (n * r) ≤ 6 * (d * s)
     go f = omega arith
 
-le1 : (a b : ℕ) → a < b → a ≤ b
-le1 a b h = omega arith
-
 module _ (n d : ℕ) (dp : 0 < d) (h : 4096 * n < d) where
   pub k0 : (f : Bool) → quarters f n d ≡ 0
   k0 f = nearest f n d 0 dp
@@ -94,7 +91,7 @@ module _ (n d : ℕ) (dp : 0 < d) (h : 4096 * n < d) where
       f2 t d = omega arith
 
   sq : 16777216 * (2 * piBot * n * (2 * piBot * n)) ≤ 2 * piBot * d * (2 * piBot * d)
-  sq = square-small n d (2 * piBot) (le1 (4096 * n) d h)
+  sq = square-small n d (2 * piBot) (le-of-lt h)
 
   sin-close : dist (n * sinBot (2 * piBot * d)) (sinTop (2 * piBot * n) (2 * piBot * d) * d) * 1048576 ≤ d * sinBot (2 * piBot * d)
   unfolding bot
@@ -105,7 +102,7 @@ module _ (n d : ℕ) (dp : 0 < d) (h : 4096 * n < d) where
       subst₂ (λ (t b : ℕ). dist (n * b) (t * d) * 1048576 ≤ d * b) (sym (sin-nested R D proper0)) (sym (sin-bot D))
       (cubic n d (2 * piBot) (top (R * R) (D * D) sinDivs) (top (R * R) (D * D) ds) (bot (D * D) sinDivs) (bot (D * D) ds) (R * R) (D * D)
       (top-sum (R * R) (D * D) 6 ds tt (mul-le-mul proper0 proper0)) refl (top-le (R * R) (D * D) ds tt (mul-le-mul proper0 proper0))
-      (cube-small n d (R * R) (D * D) (le1 (4096 * n) d h) sq))
+      (cube-small n d (R * R) (D * D) (le-of-lt h) sq))
 
   -- the cosine: 1 - (1 - t/2 N') is t/2 N'
   cos-close : dist (1 * cosBot (2 * piBot * d)) (cosTop (2 * piBot * n) (2 * piBot * d) * 1) * 1048576 ≤ 1 * cosBot (2 * piBot * d)

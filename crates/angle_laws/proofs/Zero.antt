@@ -2,7 +2,7 @@
 use mathlib.Core.Path.{_≡_, sym, ap, _∙_, subst, refl, ap₂}
 use mathlib.Core.Bool.{Bool, true, false, cond, Bool·beq, _&&_}
 use Prim.Native.Nat.{ℕ, _+_, _*_, _≤_, max, _<_, zero-le, zero, suc}
-use native.Mathlib.Nat.{le-trans, zero-mul, mul-le-mul-left, mul-le-mul-right, mul-pos, le-of-eq, le-of-mul-le-mul-left, zero-lt-suc}
+use native.Mathlib.Nat.{le-trans, zero-mul, mul-le-mul-left, mul-le-mul-right, mul-pos, le-of-eq, le-of-mul-le-mul-left, zero-lt-suc, le-max-left}
 use native.Mathlib.Omega.{arith}
 use lib.Dec.{lit≤, lit<, T}
 use lib.Ieee.{neg, fin, up, down, binary32, div, lt, eq, Float, nan, inf}
@@ -19,9 +19,15 @@ use Rattle.angle_laws.proofs.Line.{sin-bot-pos, cos-bot-pos}
 use Rattle.sines.specs.Sines.{plusZero, one}
 use Rattle.angles.proofs.Sides.{lt-zero, zero-lt, is-zero, not-zero}
 use Rattle.angle_laws.proofs.Best.{best-good}
-use Rattle.angle_laws.proofs.Arcs.{arc-good}
+use Rattle.angle_laws.proofs.Arcs.{zero-times, arc-good}
 
 -- ---- y = 0 leaves only x S(a)
+
+-- of two sizes the first is 0: their difference and their sum are the second
+one-way : (x y : ℕ) → x ≡ 0 → (b : Bool) → cond b (dist x y) (x + y) ≡ y
+one-way x y h true = omega arith
+one-way x y h false = omega arith
+
 zero-on : (a b : Bool) (U W st sb ct cb : ℕ) → U ≡ 0 → st * 262144 ≤ sb → minusSize a (U * (ct * sb)) b (W * (st * cb)) * 262144 ≤ max W U * (cb * sb)
 zero-on a b U W st sb ct cb u h = go (Bool·beq a b)
   where
@@ -31,21 +37,11 @@ zero-on a b U W st sb ct cb u h = go (Bool·beq a b)
     fac : W * cb * (st * 262144) ≤ W * cb * sb → W * (st * cb) * 262144 ≤ W * (cb * sb)
     fac f = omega arith
 
-    le-max : (W U : ℕ) → W ≤ max W U
-    le-max W U = omega arith
-
-    same : (x y : ℕ) → x ≡ 0 → dist x y ≡ y
-    same x y h = omega arith
-
-    same' : (x y : ℕ) → x ≡ 0 → x + y ≡ y
-    same' x y h = omega arith
-
     base : W * (st * cb) * 262144 ≤ max W U * (cb * sb)
-    base = le-trans (fac (mul-le-mul-left (W * cb) h)) (mul-le-mul-right (cb * sb) (le-max W U))
+    base = le-trans (fac (mul-le-mul-left (W * cb) h)) (mul-le-mul-right (cb * sb) (le-max-left W U))
 
     go : (e : Bool) → cond e (dist (U * (ct * sb)) (W * (st * cb))) (U * (ct * sb) + W * (st * cb)) * 262144 ≤ max W U * (cb * sb)
-    go true = subst (λ (x : ℕ). x * 262144 ≤ max W U * (cb * sb)) (sym (same (U * (ct * sb)) (W * (st * cb)) z)) base
-    go false = subst (λ (x : ℕ). x * 262144 ≤ max W U * (cb * sb)) (sym (same' (U * (ct * sb)) (W * (st * cb)) z)) base
+    go e = subst (λ (x : ℕ). x * 262144 ≤ max W U * (cb * sb)) (sym (one-way (U * (ct * sb)) (W * (st * cb)) z e)) base
 
 zero-fwd : (b : Bool) (U W st sb ct cb : ℕ) → U ≡ 0 → 0 < W → 0 < ct → 0 < sb → plusPositive false (W * (ct * sb)) b (U * (st * cb))
 zero-fwd b U W st sb ct cb u w c s = go b (W * (ct * sb)) (U * (st * cb)) (mul-pos w (mul-pos c s)) (ap (λ (x : ℕ). x * (st * cb)) u ∙ zero-mul (st * cb))
@@ -59,9 +55,6 @@ zero-fwd b U W st sb ct cb u w c s = go b (W * (ct * sb)) (U * (st * cb)) (mul-p
       where
         g2 : (p q : ℕ) → 0 < p → q ≡ 0 → 0 < p + q
         g2 p q h k = omega arith
-
-nothing : (u d : ℕ) → 0 * u * d ≡ 0
-nothing u d = omega arith
 
 -- ---- the angle π (as the nearest f32), by computation
 pi-sin : (s : Bool) → (sine s 13176795 4194304) .top * 262144 ≤ (sine s 13176795 4194304) .bot
@@ -87,10 +80,10 @@ pi-neg false = refl
 back : (sy : Bool) (ey : ℤ) (mx : ℕ) (ex : ℤ) → 0 < mx → IsArc (fin sy 0 ey) (fin true mx ex) (signedPi32 sy)
 unfolding IsArc S C
 back sy ey mx ex xp = (
-  zero-on (xor sy (c .neg)) (xor true (s .neg)) (0 * up ey * down ex) (mx * up ex * down ey) (s .top) (s .bot) (c .top) (c .bot) (nothing (up ey) (down ex)) (pi-sin sy),
+  zero-on (xor sy (c .neg)) (xor true (s .neg)) (0 * up ey * down ex) (mx * up ex * down ey) (s .top) (s .bot) (c .top) (c .bot) (zero-times (up ey) (down ex)) (pi-sin sy),
   (
     subst (λ (b : Bool). plusPositive (xor true b) (mx * up ex * down ey * (c .top * s .bot)) (xor sy (s .neg)) (0 * up ey * down ex * (s .top * c .bot))) (sym (pi-neg sy))
-        (zero-fwd (xor sy (s .neg)) (0 * up ey * down ex) (mx * up ex * down ey) (s .top) (s .bot) (c .top) (c .bot) (nothing (up ey) (down ex)) (mul-pos (mul-pos xp (up-pos ex)) (down-pos ey)) (pi-cos sy) (pi-bot sy)),
+        (zero-fwd (xor sy (s .neg)) (0 * up ey * down ex) (mx * up ex * down ey) (s .top) (s .bot) (c .top) (c .bot) (zero-times (up ey) (down ex)) (mul-pos (mul-pos xp (up-pos ex)) (down-pos ey)) (pi-cos sy) (pi-bot sy)),
     (lit≤ tt, refl),
   ),
 )
@@ -118,18 +111,8 @@ module _ (sy : Bool) (ey : ℤ) where
   sin0 : (sine sy (0 * up ey) (down ey)) .top * 262144 ≤ (sine sy (0 * up ey) (down ey)) .bot
   sin0 = le-of-mul-le-mul-left (go (Bool·beq sy ((sine sy (0 * up ey) (down ey)) .neg)) ((sine sy (0 * up ey) (down ey)) .top) ((sine sy (0 * up ey) (down ey)) .bot) (up ey) (down ey) (sine-small (0 * up ey) (down ey) (down-pos ey) small0 sy)) (down-pos ey)
     where
-      one-way : (x y : ℕ) → x ≡ 0 → (b : Bool) → cond b (dist x y) (x + y) ≡ y
-      one-way x y h true = g x y h
-        where
-          g : (x y : ℕ) → x ≡ 0 → dist x y ≡ y
-          g x y h = omega arith
-      one-way x y h false = g x y h
-        where
-          g : (x y : ℕ) → x ≡ 0 → x + y ≡ y
-          g x y h = omega arith
-
       go : (b : Bool) (t q u d : ℕ) → cond b (dist (0 * u * q) (t * d)) (0 * u * q + t * d) * 1048576 ≤ d * q → d * (t * 262144) ≤ d * q
-      go b t q u d h = fin (subst (λ (z : ℕ). z * 1048576 ≤ d * q) (one-way (0 * u * q) (t * d) (nothing u q) b) h)
+      go b t q u d h = fin (subst (λ (z : ℕ). z * 1048576 ≤ d * q) (one-way (0 * u * q) (t * d) (zero-times u q) b) h)
         where
           fin : t * d * 1048576 ≤ d * q → d * (t * 262144) ≤ d * q
           fin f = omega arith
@@ -167,11 +150,11 @@ module _ (sy : Bool) (ey : ℤ) where
   front : (mx : ℕ) (ex : ℤ) → 0 < mx → IsArc (fin sy 0 ey) (fin false mx ex) (fin sy 0 ey)
   unfolding IsArc S C s0 c0
   front mx ex xp = (
-    zero-on (xor sy (c0 .neg)) (xor false (s0 .neg)) (0 * up ey * down ex) (mx * up ex * down ey) (s0 .top) (s0 .bot) (c0 .top) (c0 .bot) (nothing (up ey) (down ex)) sin0,
+    zero-on (xor sy (c0 .neg)) (xor false (s0 .neg)) (0 * up ey * down ex) (mx * up ex * down ey) (s0 .top) (s0 .bot) (c0 .top) (c0 .bot) (zero-times (up ey) (down ex)) sin0,
     (
       subst (λ (b : Bool). plusPositive (xor false b) (mx * up ex * down ey * (c0 .top * s0 .bot)) (xor sy (s0 .neg)) (0 * up ey * down ex * (s0 .top * c0 .bot))) (sym neg0)
-          (zero-fwd (xor sy (s0 .neg)) (0 * up ey * down ex) (mx * up ex * down ey) (s0 .top) (s0 .bot) (c0 .top) (c0 .bot) (nothing (up ey) (down ex)) (mul-pos (mul-pos xp (up-pos ex)) (down-pos ey)) cos0 (bots .0)),
-      (le-trans (le-of-eq (nothing (up ey) 4194304)) zero-le, refl),
+          (zero-fwd (xor sy (s0 .neg)) (0 * up ey * down ex) (mx * up ex * down ey) (s0 .top) (s0 .bot) (c0 .top) (c0 .bot) (zero-times (up ey) (down ex)) (mul-pos (mul-pos xp (up-pos ex)) (down-pos ey)) cos0 (bots .0)),
+      (le-trans (le-of-eq (zero-times (up ey) 4194304)) zero-le, refl),
     ),
   )
 

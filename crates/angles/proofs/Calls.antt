@@ -8,7 +8,7 @@ use Rattle.floats.proofs.Cross.{both}
 use Rattle.sines.specs.Sines.{plusZero, inRange, sineSteps, cosineSteps}
 use Rattle.angles.specs.Arc.{arctanSteps}
 use Rattle.angles.specs.Says.{sinOf, cosOf, atan2Of, sineSays, cosineSays, arctanSays}
-use Rattle.angles.specs.declared.Answer.the-variants.{Value, Refused}
+use Rattle.angles.specs.declared.AngleAnswer.the-variants.{Value, Refused}
 
 yes : {A : Type 0} (b d : Bool) (x y r : A) → b ≡ d → b ≡ true → r ≡ x → r ≡ cond d x y
 yes b d x y r e h k = k ∙ ap (λ (z : Bool). cond z x y) (sym h ∙ e)

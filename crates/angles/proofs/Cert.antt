@@ -3,27 +3,30 @@ use mathlib.Core.Path.{_≡_, sym, subst, ap, ap₂, _∙_}
 use mathlib.Core.Bool.{false, true, true≢false, Bool, not, cond}
 use Prim.Native.Nat.{ℕ, zero, suc, _*_, _≤_, _/_, _<_}
 use lib.IntN.{ℤ}
-use lib.Ieee.{Float, fin, up, down, nan, inf, lt, le, eq, neg}
+use lib.Ieee.{Float, fin, up, down, nan, inf, lt, le, neg}
 use native.Mathlib.Omega.{arith}
 use lib.Dec.{T}
 use native.Mathlib.Nat.{le-trans, le-of-mul-le-mul-right, div-mul-le-self, zero-lt-suc}
 use lib.Ieee.Fits.{down-pos}
 use lib.Ieee.Scale.{finite}
+use Rattle.floats.specs.Floats.{absOf}
 use Rattle.bits.specs.Parts.{places}
 use Rattle.sines.specs.Sines.{plusZero}
 use Rattle.bits.proofs.Wide.{or-le}
-use Rattle.angles.proofs.Sides.{lt-zero, mag-zero, mag-pos}
-use Rattle.angles.specs.Arc.{signedPi32, gridTest, certOf, ratioOf, arcSteps, magf, bestSteps}
+use Rattle.angles.proofs.Sides.{lt-zero, zero-lt}
+use Rattle.angles.specs.Arc.{signedPi32, gridTest, certOf, ratioOf, arcSteps, bestSteps}
 use Rattle.angles.specs.Guess.{arcGuess}
 
 -- ---- the size of a float is not below zero
-pub mag-not : (x r : Float) → r ≡ magf x → T (not (lt r plusZero))
-unfolding lt eq magf neg
-mag-not nan r e = subst (λ (z : Float). T (not (lt z plusZero))) (sym e) tt
-mag-not (inf true) r e = subst (λ (z : Float). T (not (lt z plusZero))) (sym e) tt
-mag-not (inf false) r e = subst (λ (z : Float). T (not (lt z plusZero))) (sym e) tt
-mag-not (fin s zero d) r e = subst (λ (z : Float). T (not (lt z plusZero))) (sym (e ∙ mag-zero s d)) tt
-mag-not (fin s (suc m) d) r e = subst (λ (z : Float). T (not (lt z plusZero))) (sym (e ∙ mag-pos s (suc m) d (zero-lt-suc m))) (subst (λ (b : Bool). T (not b)) (sym (lt-zero false (suc m) d (zero-lt-suc m))) tt)
+pub size-not : (x r : Float) → r ≡ absOf x → T (not (lt r plusZero))
+unfolding absOf
+size-not x r e = subst (λ (z : Float). T (not (lt z plusZero))) (sym e) (go x)
+  where
+    go : (x : Float) → T (not (lt (absOf x) plusZero))
+    go nan = unfold lt in tt
+    go (inf s) = unfold lt in tt
+    go (fin s zero d) = subst (λ (b : Bool). T (not b)) (sym (zero-lt false d)) tt
+    go (fin s (suc m) d) = subst (λ (b : Bool). T (not b)) (sym (lt-zero false (suc m) d (zero-lt-suc m))) tt
 
 -- ---- an angle c from +0 to the f32 nearest π, in units of 2^-40
 places-le : (n d : ℕ) → 0 < d → n * 4194304 ≤ 13176795 * d → n * 1099511627776 / d ≤ 17592186044416
@@ -63,11 +66,11 @@ cert-far back py px c k = sym (ap (λ (a : Bool). cond a (gridTest back py px (p
 abbrev pub body : Float → Float → Bool → Bool → Bool → Float → Float → Float
 body y x b back s p q =
     let t = cond b (ratioOf p q) (ratioOf q p) in
-    let c = magf (arcGuess back p q) in
+    let c = absOf (arcGuess back p q) in
     cond (certOf back (cond b t 2147483648) (cond b 2147483648 t) c) (cond s (neg c) c) (arcSteps y x)
 
-module _ (y x p q : Float) (b s : Bool) (t : ℕ) (c : Float) (k : Bool) (ep : p ≡ magf y) (eq' : q ≡ magf x) (eb : le p q ≡ b)
-    (et : t ≡ cond b (ratioOf p q) (ratioOf q p)) (ec : c ≡ magf (arcGuess (lt x plusZero) p q)) (ek : k ≡ certOf (lt x plusZero) (cond b t 2147483648) (cond b 2147483648 t) c) where
+module _ (y x p q : Float) (b s : Bool) (t : ℕ) (c : Float) (k : Bool) (ep : p ≡ absOf y) (eq' : q ≡ absOf x) (eb : le p q ≡ b)
+    (et : t ≡ cond b (ratioOf p q) (ratioOf q p)) (ec : c ≡ absOf (arcGuess (lt x plusZero) p q)) (ek : k ≡ certOf (lt x plusZero) (cond b t 2147483648) (cond b 2147483648 t) c) where
   whole-best : bestSteps y x ≡ cond k (cond (lt y plusZero) (neg c) c) (arcSteps y x)
   unfolding bestSteps
   whole-best =

@@ -1,16 +1,17 @@
 -- The sizes of y and x, and their ratio: what the code asks on the way. Assumes nothing.
 use mathlib.Core.Path.{_≡_, ap, refl, ap₂, _∙_, sym, subst, subst₂}
 use mathlib.Core.Bool.{true, false, Bool, _&&_, Bool·beq, cond, not, true≢false, _||_}
-use Prim.Native.Nat.{ℕ, _<_, _≤_, _+_, _*_, zero, suc, zero-le}
+use Prim.Native.Nat.{ℕ, _<_, _≤_, _+_, _*_, zero, suc}
 use lib.Dec.{ltb, T, not-T, eqb, eqb→eq}
 use lib.Ieee.Bits.{is-true, is-false}
 use native.Mathlib.Omega.{arith}
-use native.Mathlib.Nat.{mul-pos, zero-lt-suc, le-trans, le-of-eq, zero-mul}
+use native.Mathlib.Nat.{mul-pos, zero-lt-suc}
 use lib.IntN.{ℤ, pos}
 use lib.Ieee.{fin, up, down, lt, eq, nan, inf, binary32, round, div, le, Float, mul}
 use lib.Ieee.Fits.{up-pos, eq→eqb, down-pos}
+use Rattle.floats.specs.Floats.{absOf}
 use Rattle.sines.specs.Sines.{plusZero}
-use Rattle.angles.specs.Arc.{magf, ratioOf, usable}
+use Rattle.angles.specs.Arc.{ratioOf, usable}
 use borrow.Author.Tests.{ltb-false, lt-ltb, le-ltb}
 use Rattle.bits.proofs.Wide.{or-le}
 use Rattle.angles.proofs.Ratio.{half-turn, Quotient, quotient}
@@ -59,15 +60,6 @@ is-zero s e = ap₂ (λ (a b : Bool). a && (Bool·beq s false || b)) (is-true (e
     go true = refl
     go false = refl
 
-pub mag-pos : (s : Bool) (m : ℕ) (e : ℤ) → 0 < m → magf (fin s m e) ≡ fin false m e
-unfolding magf
-mag-pos true m e h = ap (λ (b : Bool). cond b (fin false m e) (cond (eq (fin true m e) plusZero) plusZero (fin true m e))) (lt-zero true m e h)
-mag-pos false m e h = ap₂ (λ (a b : Bool). cond a (fin true m e) (cond b plusZero (fin false m e))) (lt-zero false m e h) (not-zero false m e h)
-
-pub mag-zero : (s : Bool) (e : ℤ) → magf (fin s 0 e) ≡ plusZero
-unfolding magf
-mag-zero s e = ap₂ (λ (a b : Bool). cond a (fin (not s) 0 e) (cond b plusZero (fin s 0 e))) (zero-lt s e) (is-zero s e)
-
 -- ---- the ratio, as a rounded fraction
 pub div-fin : (m : ℕ) (e : ℤ) (n : ℕ) (d : ℤ) → 0 < n → div binary32 (fin false m e) (fin false n d) ≡ round binary32 false (m * up e * down d) (n * up d * down e)
 unfolding div
@@ -89,15 +81,15 @@ le-false m e n d h = ltb-false (m * up e * down d) (n * up d * down e) (or-false
     or-false false b h = refl
 
 -- ---- x zero, of either sign
-pub le-zero : (m : ℕ) (e : ℤ) → 0 < m → le (fin false m e) plusZero ≡ false
-unfolding le
-le-zero m e h = ap₂ (λ (a b : Bool). a || (b && true)) (le-ltb (m * up e * 1) (0 * down e) (g1 (m * up e) (down e))) (is-false (eqb (m * up e * 1) (0 * down e)) (not-T (eqb (m * up e * 1) (0 * down e)) (λ (t : T (eqb (m * up e * 1) (0 * down e))). no (m * up e) (down e) (mul-pos h (up-pos e)) (eqb→eq (m * up e * 1) (0 * down e) t))))
+pub le-zero : (m : ℕ) (e d : ℤ) → 0 < m → le (fin false m e) (fin false 0 d) ≡ false
+le-zero m e d h = go (le (fin false m e) (fin false 0 d)) refl
   where
-    g1 : (n d : ℕ) → 0 * d ≤ n * 1
-    g1 n d = omega arith
+    none : (a u v : ℕ) → 0 < a → a ≤ 0 * u * v → ⊥
+    none a u v h k = omega arith
 
-    no : (n d : ℕ) → 0 < n → n * 1 ≡ 0 * d → ⊥
-    no n d h e = omega arith
+    go : (b : Bool) → le (fin false m e) (fin false 0 d) ≡ b → b ≡ false
+    go true k = absurd (none (m * up e * down d) (up d) (down e) (mul-pos (mul-pos h (up-pos e)) (down-pos d)) (le-true m e 0 d k))
+    go false k = refl
 
 -- ---- what the code asks on the way
 pub record Asks (lo big : Float) : Type 0 where
@@ -105,32 +97,33 @@ pub record Asks (lo big : Float) : Type 0 where
   pub below : T (lt (mul binary32 (div binary32 lo big) half-turn) (fin false 1 (pos 64)))
   pub top : ratioOf lo big ≤ 2147484168
 
+pub ratio-near : (m : ℕ) (e : ℤ) (n : ℕ) (d : ℤ) → 0 < n → m * up e * down d ≤ n * up d * down e → Quotient (mul binary32 (div binary32 (fin false m e) (fin false n d)) half-turn) (m * up e * down d) (n * up d * down e)
+ratio-near m e n d h le = subst (λ (z : Float). Quotient (mul binary32 z half-turn) (m * up e * down d) (n * up d * down e)) (sym (div-fin m e n d h)) (quotient (m * up e * down d) (n * up d * down e) (mul-pos (mul-pos h (up-pos d)) (down-pos e)) le)
+
 asks : (m : ℕ) (e : ℤ) (n : ℕ) (d : ℤ) → 0 < n → m * up e * down d ≤ n * up d * down e → Asks (fin false m e) (fin false n d)
 unfolding ratioOf
 asks m e n d h le =
-    let r = subst (λ (z : Float). Quotient (mul binary32 z half-turn) (m * up e * down d) (n * up d * down e)) (sym (div-fin m e n d h)) (quotient (m * up e * down d) (n * up d * down e) (mul-pos (mul-pos h (up-pos d)) (down-pos e)) le) in
+    let r = ratio-near m e n d h le in
     record { above = r .above; below = r .below; top = r .top }
 
 pub record Sides (y x : Float) : Type 0 where
-  pub flat-asks : le (magf y) (magf x) ≡ true → Asks (magf y) (magf x)
-  pub steep-asks : le (magf y) (magf x) ≡ false → Asks (magf x) (magf y)
+  pub flat-asks : le (absOf y) (absOf x) ≡ true → Asks (absOf y) (absOf x)
+  pub steep-asks : le (absOf y) (absOf x) ≡ false → Asks (absOf x) (absOf y)
 
 pub nonzero : (s : Bool) (m : ℕ) (e : ℤ) → T (not (eq (fin s m e) plusZero)) → 0 < m
 nonzero s zero e t = absurd (subst (λ (b : Bool). T (not b)) (is-zero s e) t)
 nonzero s (suc m) e t = zero-lt-suc m
 
 sides : (sy : Bool) (my : ℕ) (ey : ℤ) (sx : Bool) (mx : ℕ) (ex : ℤ) → 0 < my → Sides (fin sy my ey) (fin sx mx ex)
+unfolding absOf
 sides sy my ey sx zero ex yp = record {
-  flat-asks = λ (h : le (magf (fin sy my ey)) (magf (fin sx 0 ex)) ≡ true). absurd (true≢false (sym h ∙ ap₂ (λ (p q : Float). le p q) (mag-pos sy my ey yp) (mag-zero sx ex) ∙ le-zero my ey yp));
-  steep-asks = λ (h : le (magf (fin sy my ey)) (magf (fin sx 0 ex)) ≡ false). subst₂ (λ (p q : Float). Asks p q) (sym (mag-zero sx ex)) (sym (mag-pos sy my ey yp)) (asks 0 (pos 0) my ey yp (le-trans (le-of-eq (zero-mul (down ey))) zero-le));
+  flat-asks = λ (h : le (fin false my ey) (fin false 0 ex) ≡ true). absurd (true≢false (sym h ∙ le-zero my ey ex yp));
+  steep-asks = λ (h : le (fin false my ey) (fin false 0 ex) ≡ false). asks 0 ex my ey yp (le-false my ey 0 ex h);
 }
-sides sy my ey sx (suc mx) ex yp =
-    let xp = zero-lt-suc mx in
-    let e = ap₂ (λ (p q : Float). le p q) (mag-pos sy my ey yp) (mag-pos sx (suc mx) ex xp) in
-    record {
-      flat-asks = λ (h : le (magf (fin sy my ey)) (magf (fin sx (suc mx) ex)) ≡ true). subst₂ (λ (p q : Float). Asks p q) (sym (mag-pos sy my ey yp)) (sym (mag-pos sx (suc mx) ex xp)) (asks my ey (suc mx) ex xp (le-true my ey (suc mx) ex (sym e ∙ h)));
-      steep-asks = λ (h : le (magf (fin sy my ey)) (magf (fin sx (suc mx) ex)) ≡ false). subst₂ (λ (p q : Float). Asks p q) (sym (mag-pos sx (suc mx) ex xp)) (sym (mag-pos sy my ey yp)) (asks (suc mx) ex my ey yp (le-false my ey (suc mx) ex (sym e ∙ h)));
-    }
+sides sy my ey sx (suc mx) ex yp = record {
+  flat-asks = λ (h : le (fin false my ey) (fin false (suc mx) ex) ≡ true). asks my ey (suc mx) ex (zero-lt-suc mx) (le-true my ey (suc mx) ex h);
+  steep-asks = λ (h : le (fin false my ey) (fin false (suc mx) ex) ≡ false). asks (suc mx) ex my ey yp (le-false my ey (suc mx) ex h);
+}
 
 pub sides-of : (y x : Float) → T (usable y x) → Sides y x
 sides-of nan x t = absurd t
@@ -139,10 +132,10 @@ sides-of (fin sy my ey) nan t = absurd t
 sides-of (fin sy my ey) (inf s) t = absurd t
 sides-of (fin sy my ey) (fin sx mx ex) t = sides sy my ey sx mx ex (nonzero sy my ey t)
 
-pub flat-of : (y x p q : Float) → T (usable y x) → p ≡ magf y → q ≡ magf x → le p q ≡ true → Asks p q
+pub flat-of : (y x p q : Float) → T (usable y x) → p ≡ absOf y → q ≡ absOf x → le p q ≡ true → Asks p q
 flat-of y x p q t ep eq' h = subst₂ (λ (u v : Float). Asks u v) (sym ep) (sym eq') (sides-of y x t .flat-asks (sym (ap₂ (λ (u v : Float). le u v) ep eq') ∙ h))
 
-pub steep-of : (y x p q : Float) → T (usable y x) → p ≡ magf y → q ≡ magf x → le p q ≡ false → Asks q p
+pub steep-of : (y x p q : Float) → T (usable y x) → p ≡ absOf y → q ≡ absOf x → le p q ≡ false → Asks q p
 steep-of y x p q t ep eq' h = subst₂ (λ (u v : Float). Asks u v) (sym eq') (sym ep) (sides-of y x t .steep-asks (sym (ap₂ (λ (u v : Float). le u v) ep eq') ∙ h))
 
 pub small-t : (t r : ℕ) → t ≡ r → r ≤ 2147484168 → t ≤ 4294967296

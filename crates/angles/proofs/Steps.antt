@@ -2,29 +2,18 @@
 use mathlib.Core.Path.{_≡_, refl, sym, ap, ap₂, _∙_, subst}
 use mathlib.Core.Bool.{Bool, true, cond, false, true≢false}
 use Prim.Native.Nat.{ℕ, zero, suc, _+_, _-_, _/_, min, _≤_, _<_, _*_, _^_}
-use lib.Ieee.{Float, neg, lt, eq, binary32, mul, ofInt, le}
+use lib.Ieee.{Float, neg, lt, binary32, mul, ofInt, le}
 use lib.IntN.{pos}
 use native.Mathlib.Omega.{arith}
 use lib.Dec.{lit≤, lit<}
 use native.Mathlib.Nat.{le-trans, mul-le-mul, lt-of-le-of-lt}
 use borrow.Author.Tests.{le-leb, lt-leb}
+use Rattle.floats.specs.Floats.{absOf}
 use Rattle.sines.specs.Sines.{plusZero}
-use Rattle.angles.specs.Arc.{magf, angleOf, unit22, eighthOf, ratioOf, arcSteps, minusSize, plusOver, lineTest, turnTest}
+use Rattle.angles.specs.Arc.{angleOf, unit22, eighthOf, ratioOf, arcSteps, minusSize, plusOver, lineTest, turnTest}
 use Rattle.sines.specs.Steps.{seek, xor, dist}
 
 -- ---- the arctangent's steps, case by case
-pub mag-below : (x : Float) → lt x plusZero ≡ true → neg x ≡ magf x
-unfolding magf
-mag-below x h = sym (ap (λ (b : Bool). cond b (neg x) (cond (eq x plusZero) plusZero x)) h)
-
-pub mag-none : (x : Float) → lt x plusZero ≡ false → eq x plusZero ≡ true → plusZero ≡ magf x
-unfolding magf
-mag-none x h k = sym (ap₂ (λ (a b : Bool). cond a (neg x) (cond b plusZero x)) h k)
-
-pub mag-above : (x : Float) → lt x plusZero ≡ false → eq x plusZero ≡ false → x ≡ magf x
-unfolding magf
-mag-above x h k = sym (ap₂ (λ (a b : Bool). cond a (neg x) (cond b plusZero x)) h k)
-
 pub angle-last : (o j m : ℕ) → (o ≡ 0 → ⊥) → (o ≡ 1 → ⊥) → (o ≡ 2 → ⊥) → m ≡ min j 13176788 → mul binary32 (ofInt binary32 (pos (13176794 - (m + 3) / 4))) unit22 ≡ angleOf o j
 unfolding angleOf
 angle-last zero j m x y z e = absurd (x refl)
@@ -35,16 +24,17 @@ angle-last (suc (suc (suc o))) j m x y z e = ap (λ (w : ℕ). mul binary32 (ofI
 pub size-is : (b s flat back : Bool) (j k : ℕ) (r : Float) → flat ≡ b → back ≡ s → j ≡ k → r ≡ angleOf (eighthOf b s) j → r ≡ angleOf (eighthOf flat back) k
 size-is b s flat back j k r p q e h = h ∙ ap (λ (z : ℕ). angleOf (eighthOf b s) z) e ∙ sym (ap₂ (λ (x y : Bool). angleOf (eighthOf x y) k) p q)
 
+-- the steps, over what they read of y and x: whether |y| ≤ |x|, x and y below zero, |y| and |x|
+abbrev pub halved : Bool → Bool → Bool → Float → Float → Float
+halved b back s p q = let a = angleOf (eighthOf b back) (seek 24 (cond b (ratioOf p q) (ratioOf q p)) 0 13176795) in cond s (neg a) a
+
 -- the last choice, by the sign of y
-pub arc-is : (y x p q : Float) (b s : Bool) (t : ℕ) (a : Float) → p ≡ magf y → q ≡ magf x → le p q ≡ b → lt y plusZero ≡ s → t ≡ cond b (ratioOf p q) (ratioOf q p) → a ≡ angleOf (eighthOf b (lt x plusZero)) (seek 24 t 0 13176795)
+pub arc-is : (y x p q : Float) (b s : Bool) (t : ℕ) (a : Float) → p ≡ absOf y → q ≡ absOf x → le p q ≡ b → lt y plusZero ≡ s → t ≡ cond b (ratioOf p q) (ratioOf q p) → a ≡ angleOf (eighthOf b (lt x plusZero)) (seek 24 t 0 13176795)
     → cond s (neg a) a ≡ arcSteps y x
 unfolding arcSteps
 arc-is y x p q b s t a ep eq' eb es et ea =
     ap (λ (z : Float). cond s (neg z) z) (ea ∙ ap (λ (z : ℕ). angleOf (eighthOf b (lt x plusZero)) (seek 24 z 0 13176795)) et)
-    ∙ sym (ap₂ (λ (u v : Float). body (le u v) (lt y plusZero) u v) (sym ep) (sym eq') ∙ ap₂ (λ (u v : Bool). body u v p q) eb es)
-  where
-    body : Bool → Bool → Float → Float → Float
-    body b s p q = let a = angleOf (eighthOf b (lt x plusZero)) (seek 24 (cond b (ratioOf p q) (ratioOf q p)) 0 13176795) in cond s (neg a) a
+    ∙ sym (ap₂ (λ (u v : Float). halved (le u v) (lt x plusZero) (lt y plusZero) u v) (sym ep) (sym eq') ∙ ap₂ (λ (u v : Bool). halved u (lt x plusZero) v p q) eb es)
 
 -- ---- the certificate, branch by branch
 pub gap-sum : (a b d : Bool) (u v : ℕ) → d ≡ xor a b → d ≡ true → u + v ≡ minusSize a u b v

@@ -6,6 +6,7 @@ use lib.Ieee.Scale.{finite}
 use lib.IntN.{negsuc, pos}
 use lib.Dec.{leb}
 use Rattle.bits.specs.Parts.{places}
+use Rattle.floats.specs.Floats.{absOf}
 use Rattle.sines.specs.Steps.{dist, seek, xor, scan, rest, sinFix, cosFix}
 use Rattle.sines.specs.Sines.{plusZero, one, half, odd}
 use Rattle.angles.specs.Guess.{arcGuess}
@@ -28,11 +29,6 @@ unit23 = fin false 1 (negsuc 22)
 abbrev pub unit22 : Float
 unit22 = fin false 1 (negsuc 21)
 
--- the size, +0 for both zeros
-unfoldable pub magf : Float → Float
-unfolding lt eq neg
-magf x = cond (lt x plusZero) (neg x) (cond (eq x plusZero) plusZero x)
-
 -- lo / big in units of 2^-31, cut
 unfoldable pub ratioOf : Float → Float → ℕ
 unfolding mul div toUnsigned
@@ -54,10 +50,10 @@ eighthOf false true = 2
 eighthOf true true = 3
 
 unfoldable pub arcSteps : Float → Float → Float
-unfolding magf ratioOf angleOf
+unfolding absOf ratioOf angleOf
 arcSteps y x =
-    let b = le (magf y) (magf x) in
-    let a = angleOf (eighthOf b (lt x plusZero)) (seek 24 (cond b (ratioOf (magf y) (magf x)) (ratioOf (magf x) (magf y))) 0 13176795) in
+    let b = le (absOf y) (absOf x) in
+    let a = angleOf (eighthOf b (lt x plusZero)) (seek 24 (cond b (ratioOf (absOf y) (absOf x)) (ratioOf (absOf x) (absOf y))) 0 13176795) in
     cond (lt y plusZero) (neg a) a
 
 -- ± the f32 nearest π
@@ -95,13 +91,13 @@ certOf back py px c = cond (le c (signedPi32 false)) (gridTest back py px (place
 
 -- the guess where it is certified, the halving elsewhere
 unfoldable pub bestSteps : Float → Float → Float
-unfolding magf ratioOf arcGuess certOf arcSteps
+unfolding absOf ratioOf arcGuess certOf arcSteps
 bestSteps y x =
-    let p = magf y in
-    let q = magf x in
+    let p = absOf y in
+    let q = absOf x in
     let b = le p q in
     let t = cond b (ratioOf p q) (ratioOf q p) in
-    let c = magf (arcGuess (lt x plusZero) p q) in
+    let c = absOf (arcGuess (lt x plusZero) p q) in
     cond (certOf (lt x plusZero) (cond b t 2147483648) (cond b 2147483648 t) c) (cond (lt y plusZero) (neg c) c) (arcSteps y x)
 
 -- ---- y zero

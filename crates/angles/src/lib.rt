@@ -18,12 +18,14 @@ ghost use lib.Ieee.Scale.{finite};
 ghost use Rattle.sines.specs.Steps.{rest, sinFix, cosFix, seek};
 ghost use Rattle.sines.specs.Sines.{plusZero};
 ghost use Rattle.angles.specs.Guess.{tailOf, raisedOf, loweredOf, atanLow, atanHigh, atanGuess, arcGuess};
-ghost use Rattle.angles.specs.Arc.{usable, magf, ratioOf, angleOf, eighthOf, arcSteps, behindOf, minusSize, plusOver, lineTest, turnTest, gridTest, certOf, bestSteps, arctanSteps};
+ghost use Rattle.angles.specs.Arc.{usable, ratioOf, angleOf, eighthOf, arcSteps, behindOf, minusSize, plusOver, lineTest, turnTest, gridTest, certOf, bestSteps, arctanSteps};
 ghost use Rattle.angles.specs.Says.{sinOf, cosOf, atan2Of, sineSays, cosineSays, arctanSays};
 
 // One level of the nested form: 1 - t / c * h, where 2^30 stands for 1.
 fn level(t: u64, h: u64, c: u64) -> u64
-    requires { ⌜ (t ≤ 1073741824) × ((h ≤ 1073741824) × (1 ≤ c)) ⌝ }
+    requires { ⌜ (t ≤ 1073741824)
+        × (h ≤ 1073741824)
+        × (1 ≤ c) ⌝ }
     ensures { λ r. ⌜ r ≡ 1073741824 - t * h / 1073741824 / c ⌝ }
 {
     1073741824 - t * h / 1073741824 / c
@@ -64,7 +66,8 @@ fn cos_fix(a: u64) -> u64
 
 // |r| in units of 2^-34.
 fn rest_of(q: u64, x: u64) -> u64
-    requires { ⌜ (q ≤ 20) × (x ≤ 17592186044416) ⌝ }
+    requires { ⌜ (q ≤ 20)
+        × (x ≤ 17592186044416) ⌝ }
     ensures { λ r. ⌜ r ≡ rest q x ⌝ }
 {
     let b = (q + q % 2) * 226375608064910088 / 1024;
@@ -103,19 +106,6 @@ fn seek_from(t: u64) -> u64
         i += 1;
     }
     lo
-}
-
-// The size of x, +0 for both zeros.
-fn mag_of(x: f32) -> f32
-    ensures { λ r. ⌜ r ≡ magf x ⌝ }
-{
-    if x < 0.0 {
-        -x
-    } else if x == 0.0 {
-        0.0
-    } else {
-        x
-    }
 }
 
 // lo / big in units of 2^-31.
@@ -181,8 +171,8 @@ fn arc(y: f32, x: f32) -> f32
     requires { ⌜ T (usable y x) ⌝ }
     ensures { λ r. ⌜ r ≡ arcSteps y x ⌝ }
 {
-    let p = mag_of(y);
-    let q = mag_of(x);
+    let p = floats::abs(y);
+    let q = floats::abs(x);
     if p <= q {
         let a = arc_size(true, x < 0.0, ratio_of(p, q));
         if y < 0.0 { -a } else { a }
@@ -295,7 +285,8 @@ fn arc_guess(back: bool, p: f32, s: f32) -> f32
 
 // The size of ± u - ± v.
 fn gap(a: bool, u: u64, b: bool, v: u64) -> u64
-    requires { ⌜ (u ≤ 6917529027641081856) × (v ≤ 6917529027641081856) ⌝ }
+    requires { ⌜ (u ≤ 6917529027641081856)
+        × (v ≤ 6917529027641081856) ⌝ }
     ensures { λ r. ⌜ r ≡ minusSize a u b v ⌝ }
 {
     if sines::differ(a, b) {
@@ -307,7 +298,8 @@ fn gap(a: bool, u: u64, b: bool, v: u64) -> u64
 
 // Whether ± u + ± v is at least 2^60.
 fn ahead(a: bool, u: u64, b: bool, v: u64) -> bool
-    requires { ⌜ (u ≤ 6917529027641081856) × (v ≤ 6917529027641081856) ⌝ }
+    requires { ⌜ (u ≤ 6917529027641081856)
+        × (v ≤ 6917529027641081856) ⌝ }
     ensures { λ r. ⌜ r ≡ plusOver a u b v ⌝ }
 {
     if a {
@@ -327,7 +319,10 @@ fn ahead(a: bool, u: u64, b: bool, v: u64) -> bool
 
 // Whether the direction (± vc, ± vs) lies along (x, y), in units of 2^-31.
 fn on_line(back: bool, py: u64, px: u64, ns: bool, vs: u64, nc: bool, vc: u64) -> bool
-    requires { ⌜ (py ≤ 2147484168) × ((px ≤ 2147484168) × ((vs ≤ 2147483648) × (vc ≤ 2147483648))) ⌝ }
+    requires { ⌜ (py ≤ 2147484168)
+        × (px ≤ 2147484168)
+        × (vs ≤ 2147483648)
+        × (vc ≤ 2147483648) ⌝ }
     ensures { λ r. ⌜ r ≡ lineTest back py px ns vs nc vc ⌝ }
 {
     if gap(nc, py * vc, sines::differ(back, ns), px * vs) <= 8796093022208 {
@@ -339,7 +334,10 @@ fn on_line(back: bool, py: u64, px: u64, ns: bool, vs: u64, nc: bool, vc: u64) -
 
 // By k mod 4, for the sine s and the cosine c of |r|.
 fn on_turn(k: u64, down: bool, back: bool, py: u64, px: u64, s: u64, c: u64) -> bool
-    requires { ⌜ (py ≤ 2147484168) × ((px ≤ 2147484168) × ((s ≤ 2147483648) × (c ≤ 2147483648))) ⌝ }
+    requires { ⌜ (py ≤ 2147484168)
+        × (px ≤ 2147484168)
+        × (s ≤ 2147483648)
+        × (c ≤ 2147483648) ⌝ }
     ensures { λ r. ⌜ r ≡ turnTest k down back py px s c ⌝ }
 {
     match k {
@@ -352,7 +350,9 @@ fn on_turn(k: u64, down: bool, back: bool, py: u64, px: u64, s: u64, c: u64) -> 
 
 // The angle x / 2^40.
 fn on_grid(back: bool, py: u64, px: u64, x: u64) -> bool
-    requires { ⌜ (py ≤ 2147484168) × ((px ≤ 2147484168) × (x ≤ 17592186044416)) ⌝ }
+    requires { ⌜ (py ≤ 2147484168)
+        × (px ≤ 2147484168)
+        × (x ≤ 17592186044416) ⌝ }
     ensures { λ r. ⌜ r ≡ gridTest back py px x ⌝ }
 {
     let q = sines::eighth(x);
@@ -370,7 +370,9 @@ fn on_grid(back: bool, py: u64, px: u64, x: u64) -> bool
 
 // Whether the angle c, not below zero, is certified for (x, y), |y| and |x| being py and px.
 fn certified(back: bool, py: u64, px: u64, c: f32) -> bool
-    requires { ⌜ (py ≤ 2147484168) × ((px ≤ 2147484168) × T (not (lt c plusZero))) ⌝ }
+    requires { ⌜ (py ≤ 2147484168)
+        × (px ≤ 2147484168)
+        × T (not (lt c plusZero)) ⌝ }
     ensures { λ r. ⌜ r ≡ certOf back py px c ⌝ }
 {
     if c <= 3.1415927410125732421875 {
@@ -384,9 +386,9 @@ fn arc_best(y: f32, x: f32) -> f32
     requires { ⌜ T (usable y x) ⌝ }
     ensures { λ r. ⌜ r ≡ bestSteps y x ⌝ }
 {
-    let p = mag_of(y);
-    let q = mag_of(x);
-    let c = mag_of(arc_guess(x < 0.0, p, q));
+    let p = floats::abs(y);
+    let q = floats::abs(x);
+    let c = floats::abs(arc_guess(x < 0.0, p, q));
     if p <= q {
         if certified(x < 0.0, ratio_of(p, q), 2147483648, c) {
             if y < 0.0 { -c } else { c }
@@ -470,41 +472,41 @@ pub fn atan2(y: f32, x: f32) -> f32
 }
 
 // What a single angle call answers: the value, or document 01's number 7 and the argument's place.
-pub enum Answer {
+pub enum AngleAnswer {
     Value(f32),
     Refused(u32, usize),
 }
 
-pub fn sine(x: f32) -> Answer
+pub fn sine(x: f32) -> AngleAnswer
     ensures { λ r. ⌜ r ≡ sineSays x ⌝ }
 {
     if sines::in_range(x) {
-        Answer::Value(sines::sin_of(x))
+        AngleAnswer::Value(sines::sin_of(x))
     } else {
-        Answer::Refused(7, 0)
+        AngleAnswer::Refused(7, 0)
     }
 }
 
-pub fn cosine(x: f32) -> Answer
+pub fn cosine(x: f32) -> AngleAnswer
     ensures { λ r. ⌜ r ≡ cosineSays x ⌝ }
 {
     if sines::in_range(x) {
-        Answer::Value(sines::cos_of(x))
+        AngleAnswer::Value(sines::cos_of(x))
     } else {
-        Answer::Refused(7, 0)
+        AngleAnswer::Refused(7, 0)
     }
 }
 
-pub fn arctangent(y: f32, x: f32) -> Answer
+pub fn arctangent(y: f32, x: f32) -> AngleAnswer
     ensures { λ r. ⌜ r ≡ arctanSays y x ⌝ }
 {
     if floats::is_finite(y) {
         if floats::is_finite(x) {
-            Answer::Value(atan_of(y, x))
+            AngleAnswer::Value(atan_of(y, x))
         } else {
-            Answer::Refused(7, 1)
+            AngleAnswer::Refused(7, 1)
         }
     } else {
-        Answer::Refused(7, 0)
+        AngleAnswer::Refused(7, 0)
     }
 }

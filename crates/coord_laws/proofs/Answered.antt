@@ -12,6 +12,7 @@ use lib.Ieee.{Float, nan, inf, fin, binary32, round, neg, add, mul, div, le, lt,
 use lib.Ieee.Fits.{and-i, mul-fits, add-fits}
 use lib.Ieee.Positive.{positive, positive-finite}
 use lib.Ieee.Scale.{finite}
+use Rattle.floats.specs.Floats.{absOf}
 use Rattle.floats.proofs.Cross.{cross→le}
 use Rattle.floats.proofs.Sign.{nonneg}
 use Rattle.floats.proofs.Ops.{finite-number, sq-nonneg, add-nonneg}
@@ -20,7 +21,7 @@ use Rattle.points.specs.Points.{pointAt}
 use Rattle.root.specs.Root.{rootOf}
 use Rattle.root.proofs.Laws.{rootOf-positive}
 use Rattle.sines.specs.Sines.{plusZero, sixteen, inRange, sineSteps, cosineSteps}
-use Rattle.angles.specs.declared.Answer.the-variants.{Value, Refused}
+use Rattle.angles.specs.declared.AngleAnswer.the-variants.{Value, Refused}
 use Rattle.angles.specs.Arc.{signedPi32, arctanSteps}
 use Rattle.angles.specs.Says.{sinOf, cosOf, atan2Of, sineSays, cosineSays, arctanSays}
 use Rattle.angle_laws.specs.Angle.{S, C, closeTo}
@@ -34,9 +35,10 @@ use Rattle.limits.proofs.Passed.{Allowed, values-passed}
 use Rattle.limits.proofs.Ends.{between-low, between-high, between-finite, angle-finite}
 use Rattle.coords.specs.Coords.{perDegree, perRadian, full32, turnOf, flatOf, sphericalOf}
 use Rattle.coords.specs.Arrays.{lifted}
+use Rattle.coords.specs.Moderate.{Moderate}
 use Rattle.coord_laws.specs.Answered.{radians, TurnAnswered, ArcAnswered, ToCartesian, ToSpherical, ConversionsAnswered}
 use Rattle.coord_laws.proofs.Size.{Small, small-mul, small-add, small-rem, small-between, between-small}
-use Rattle.coord_laws.proofs.Inside.{Inside, list-copied}
+use Rattle.coord_laws.proofs.Inside.{list-copied}
 
 -- a test that holds takes the first way
 first : {A : Type 0} (b : Bool) (x y : A) → T b → cond b x y ≡ x
@@ -55,7 +57,7 @@ angle-small d e = between-small (nearest32 720 1) d (angle-finite d e) (between-
 
 -- 720 degrees are less than 16
 radians-small : (d : Float) → Small (nearest32 720 1) d → Small sixteen (radians d)
-unfolding round mul div ofBits le lt eq
+unfolding round mul div ofBits le lt eq absOf
 radians-small d h = small-mul binary32 (nearest32 720 1) perDegree sixteen d perDegree tt tt tt tt h (record { held = tt; most = tt })
 
 -- SINE AND COSINE OF EVERY ANGLE THAT DOCUMENT 01 ALLOWS ARE ANSWERED
@@ -93,17 +95,17 @@ arc-answered y x p q =
 
 -- of any two floats it is at most the f32 nearest π: +0 where a call would be refused
 zero-small : Small (signedPi32 false) plusZero
-unfolding le lt eq
+unfolding le lt eq absOf
 zero-small = record { held = tt; most = tt }
 
 from-arc : (s : Bool) (m : ℕ) (e : ℤ) (t : Bool) (n : ℕ) (d : ℤ) (r : Float) → IsArc (fin s m e) (fin t n d) r → Small (signedPi32 false) r
-unfolding IsArc
+unfolding IsArc absOf
 from-arc s m e t n d nan h = absurd h
 from-arc s m e t n d (inf u) h = absurd h
 from-arc s m e t n d (fin u k g) h = record { held = tt; most = cross→le (fin false k g) (signedPi32 false) tt tt (omega (arith, h .1 .1 .0)) }
 
 pub arc-small : (y x : Float) → Small (signedPi32 false) (atan2Of y x)
-unfolding atan2Of Arctan
+unfolding atan2Of Arctan absOf
 arc-small nan x = zero-small
 arc-small (inf s) x = zero-small
 arc-small (fin s m e) nan = zero-small
@@ -118,11 +120,11 @@ arc-small (fin s (suc m) e) (fin t n d) = from-arc s (suc m) e t n d (arctanStep
 -- ---- what `sphericalOf` gives, of any point: an azimuth and an elevation of magnitude at most 360 and 180
 
 degrees-small : (a : Float) → Small (signedPi32 false) a → Small (nearest32 180 1) (mul binary32 a perRadian)
-unfolding round mul div ofBits le lt eq
+unfolding round mul div ofBits le lt eq absOf
 degrees-small a h = small-mul binary32 (signedPi32 false) perRadian (nearest32 180 1) a perRadian tt tt tt tt h (record { held = tt; most = tt })
 
 raised-small : (a : Float) → Small (nearest32 180 1) a → Small (nearest32 540 1) (add binary32 a full32)
-unfolding round add ofBits le lt eq
+unfolding round add ofBits le lt eq absOf
 raised-small a h = small-add binary32 (nearest32 180 1) full32 (nearest32 540 1) a full32 tt tt tt tt h (record { held = tt; most = tt })
 
 pub azimuth-small : (p : Point3) → Small full32 (sphericalOf p .azimuth)
@@ -162,7 +164,7 @@ root-finite (fin false zero e) w p q = unfold rootOf in tt
 root-finite (fin false (suc m) e) w p q = positive-finite (rootOf (fin false (suc m) e)) (rootOf-positive (fin false (suc m) e) w (lt→ltb 0 (suc m) (omega arith)))
 
 -- THE WAY BACK IS ANSWERED for a point whose coordinates are of magnitude at most 10001
-pub spherical-answered : (p : Point3) → Inside p → ToSpherical p
+pub spherical-answered : (p : Point3) → Moderate p → ToSpherical p
 spherical-answered p i =
     let x = coordinate-small (p .x) (i .x) in
     let y = coordinate-small (p .y) (i .y) in

@@ -1,33 +1,29 @@
 -- A spherical position with an allowed radius has Cartesian coordinates of magnitude at most 10001, whatever its angles. Assumes nothing.
 use Prim.Native.Nat.{ℕ, _+_, _*_, _%_, _<_}
-use mathlib.Core.Path.{_≡_, refl}
+use mathlib.Core.Path.{_≡_}
 use mathlib.Core.List.{List}
 use native.Mathlib.Omega.{arith}
 use borrow.Author.Tests.{eq-eqb}
 use lib.ListN.{length, getD}
-use mathlib.Core.Bool.{Bool, true, false, _&&_}
+use mathlib.Core.Bool.{true}
 use lib.Dec.{T}
 use lib.Ieee.{Float, nan, binary32, round, neg, mul, le, lt, eq}
 use lib.Ieee.Fits.{mul-fits}
+use lib.Ieee.Bits.{is-true}
 use Rattle.floats.specs.Floats.{zero32}
+use Rattle.floats.proofs.Cross.{both}
 use Rattle.floats.proofs.Preorder.{le-trans-f}
-use Rattle.points.specs.declared.Point3.{Point3}
 use Rattle.limits.specs.Allowed.{nearest32, between, within, radiusOk, cartesianOk, positionOk}
 use Rattle.limits.proofs.Passed.{Allowed}
 use Rattle.limits.proofs.Ends.{between-low, between-high, radius-finite}
 use Rattle.coords.specs.declared.Spherical.{Spherical}
 use Rattle.coords.specs.Coords.{perDegree, turnOf, alongOf, cartesianOf}
 use Rattle.coords.specs.Arrays.{turned, lifted, byTriplets}
+use Rattle.coords.specs.Moderate.{Moderate}
 use Rattle.coords.proofs.Places.{changed-at}
 use Rattle.points.specs.Points.{pointAt}
 use Rattle.coord_laws.proofs.Size.{Small, small-wider, small-mul, small-between, between-small}
 use Rattle.coord_laws.proofs.Turns.{rim, sin-small, cos-small}
-
--- each coordinate has magnitude at most 10001
-pub record Inside (p : Point3) : Type 0 where
-  pub x : within 10001 1 (p .x) ≡ true
-  pub y : within 10001 1 (p .y) ≡ true
-  pub z : within 10001 1 (p .z) ≡ true
 
 -- 10000, 10000.5 and 10001
 abbrev b0 : Float
@@ -58,21 +54,16 @@ wider : (z : Float) → Small b1 z → Small b2 z
 unfolding round le lt eq
 wider z h = small-wider b1 b2 z tt h
 
-both : (a b : Bool) → T a → T b → (a && b) ≡ true
-both true true p q = refl
-both true false p q = absurd q
-both false b p q = absurd p
-
 -- a size at most b, for an end b that is no less than zero
 pub small-within : (a b : ℕ) (x : Float) → T (le (neg zero32) (nearest32 a b)) → T (le (neg (nearest32 a b)) zero32) → Small (nearest32 a b) x → within a b x ≡ true
 unfolding within between
-small-within a b x l k h = let s = small-between (nearest32 a b) x l k h in both (le (neg (nearest32 a b)) x) (le x (nearest32 a b)) (s .0) (s .1)
+small-within a b x l k h = let s = small-between (nearest32 a b) x l k h in both (is-true (le (neg (nearest32 a b)) x) (s .0)) (is-true (le x (nearest32 a b)) (s .1))
 
 small-inside : (x : Float) → Small b2 x → within 10001 1 x ≡ true
 unfolding round neg le lt eq
 small-inside x h = small-within 10001 1 x tt tt h
 
-pub inside : (s : Spherical) → radiusOk (s .radius) ≡ true → Inside (cartesianOf s)
+pub inside : (s : Spherical) → radiusOk (s .radius) ≡ true → Moderate (cartesianOf s)
 unfolding cartesianOf alongOf turnOf
 inside s e =
     let r = radius-small (s .radius) e in
@@ -92,7 +83,7 @@ unfolding positionOk
 radius-at i x m e = rw (eq-eqb (i % 3) 2 m) at e
 
 -- a list of spherical positions, converted
-pub list-inside : (xs : List Float) → Allowed 1 xs (length xs) → (place : ℕ) → 3 * place + 2 < length xs → Inside (pointAt (byTriplets (turned 1) xs) place)
+pub list-inside : (xs : List Float) → Allowed 1 xs (length xs) → (place : ℕ) → 3 * place + 2 < length xs → Moderate (pointAt (byTriplets (turned 1) xs) place)
 unfolding turned
 list-inside xs ok place h =
     rw (changed-at (turned 1) xs place h)
@@ -105,13 +96,13 @@ list-inside xs ok place h =
 copied-inside : (x : Float) → cartesianOk x ≡ true → within 10001 1 x ≡ true
 unfolding cartesianOk within between round neg le lt eq
 copied-inside x e =
-    both (le (neg b2) x) (le x b2) (le-trans-f (neg b2) (neg b0) x tt (between-low (neg b0) b0 x e)) (le-trans-f x b0 b2 (between-high (neg b0) b0 x e) tt)
+    both (is-true (le (neg b2) x) (le-trans-f (neg b2) (neg b0) x tt (between-low (neg b0) b0 x e))) (is-true (le x b2) (le-trans-f x b0 b2 (between-high (neg b0) b0 x e) tt))
 
 copied-at : (xs : List Float) (n : ℕ) → Allowed 0 xs n → (i : ℕ) → i < n → within 10001 1 (getD xs i nan) ≡ true
 copied-at xs n ok i h = copied-inside (getD xs i nan) (unfold positionOk in ok i h)
 
 -- a list of Cartesian positions
-pub list-copied : (xs : List Float) (n : ℕ) → Allowed 0 xs n → (place : ℕ) → 3 * place + 2 < n → Inside (pointAt xs place)
+pub list-copied : (xs : List Float) (n : ℕ) → Allowed 0 xs n → (place : ℕ) → 3 * place + 2 < n → Moderate (pointAt xs place)
 unfolding pointAt
 list-copied xs n ok place h = record {
   x = copied-at xs n ok (3 * place) (omega arith);

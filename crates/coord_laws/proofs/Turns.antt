@@ -8,6 +8,7 @@ use lib.Dec.{T}
 use lib.IntN.{negsuc}
 use lib.Ieee.{Float, nan, inf, fin, binary32, fits, up, down, le}
 use lib.Ieee.Fits.{down-pos}
+use Rattle.floats.specs.Floats.{absOf}
 use Rattle.floats.proofs.Cross.{cross→le}
 use Rattle.sines.specs.Steps.{dist}
 use Rattle.sines.specs.Sines.{plusZero, inRange, sineSteps, cosineSteps}
@@ -97,7 +98,7 @@ abbrev pub rim : Float
 rim = fin false 1048577 (negsuc 19)
 
 near-rim : (x : Float) (ρ : Ratio) → Proper ρ → closeTo 1048576 x ρ → Small rim x
-unfolding closeTo
+unfolding closeTo absOf
 near-rim nan ρ p w = absurd w
 near-rim (inf s) ρ p w = absurd w
 near-rim (fin s m e) ρ p w =
@@ -119,6 +120,7 @@ near-rim (fin s m e) ρ p w =
 -- ---- for every float: +0 where a call would be refused
 
 by-range : (x y : Float) (b : Bool) → (T b → Small rim y) → Small rim (cond b y plusZero)
+unfolding absOf
 by-range x y true h = h tt
 by-range x y false h = record { held = tt; most = unfold le in tt }
 

@@ -12,7 +12,7 @@ use Rattle.points.specs.declared.Point3.{Point3}
 use Rattle.points.specs.Points.{pointAt}
 use Rattle.root.specs.Root.{rootOf}
 use Rattle.sines.specs.Sines.{inRange}
-use Rattle.angles.specs.declared.Answer.the-variants.{Value}
+use Rattle.angles.specs.declared.AngleAnswer.the-variants.{Value}
 use Rattle.angles.specs.Says.{atan2Of, sineSays, cosineSays, arctanSays}
 use Rattle.angle_laws.specs.Angle.{S, C, closeTo}
 use Rattle.angle_laws.specs.Asked.{Arctan}

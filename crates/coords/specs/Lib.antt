@@ -1,2 +1,3 @@
 pub mod Coords
 pub mod Arrays
+pub mod Moderate

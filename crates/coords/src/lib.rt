@@ -5,8 +5,9 @@
 // specs/Arrays.antt says what a list holds after a conversion. `turn_of` and `along` are the halves of
 // `spherical_to_cartesian`: a search that keeps one angle works out its sine and cosine once.
 //
-// proofs/Radii.antt: the radius of a finite point is a number and not negative. proofs/Places.antt:
-// a converted list, place by place. The crate `coord_laws`: a converted position whose radius was
+// proofs/Radii.antt: the radius of a point without a NaN is not negative (`radius-nonneg`).
+// specs/Moderate.antt: coordinates of magnitude at most 10001. proofs/Places.antt: a converted list,
+// place by place. The crate `coord_laws`: a converted position whose radius was
 // allowed has coordinates of magnitude at most 10001, and no angle of an allowed conversion is refused.
 use limits::Verdict;
 use points::Point3;

@@ -29,6 +29,12 @@ finite-number nan t = absurd t
 finite-number (inf s) t = absurd t
 finite-number (fin s m e) t = tt
 
+pub neg-finite : (x : Float) → T (finite x) → T (finite (neg x))
+unfolding neg
+neg-finite nan t = absurd t
+neg-finite (inf s) t = absurd t
+neg-finite (fin s m e) t = tt
+
 pub nonneg-le-inf : (x : Float) → T (nonneg x) → T (le x (inf false))
 unfolding le
 nonneg-le-inf nan t = absurd t

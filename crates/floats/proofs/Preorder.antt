@@ -1,14 +1,14 @@
 -- `le`, `lt` and `eq` of floats: on all values but `nan` a total preorder, infinities included, with -0 equal to +0. A comparison with `nan` is false. Assumes nothing.
 use mathlib.Core.Path.{_≡_, refl, sym, ap, _∙_, subst}
-use Prim.Native.Nat.{ℕ, _≤_, _<_}
-use native.Mathlib.Nat.{le-refl, le-of-lt, le-of-eq, le-antisymm, not-le-of-lt, zero-mul}
-use mathlib.Core.Bool.{Bool, true, false, not, _&&_, _||_}
+use Prim.Native.Nat.{ℕ}
+use native.Mathlib.Nat.{le-refl, le-of-eq, le-antisymm, not-le-of-lt, zero-mul}
+use mathlib.Core.Bool.{Bool, true, false, not, _&&_}
 use lib.IntN.{ℤ}
 use lib.Dec.{T, leb, ltb, eqb, eqb→eq, leb→le, le→leb, ltb→lt, lt→ltb, nleb→lt, not-T, T-not}
 use lib.Ieee.{Float, nan, inf, fin, lt, eq, le, isNan}
 use lib.Ieee.Fits.{and-i, and-l, and-r, eq→eqb}
 use lib.Ieee.Positive.{den, den-pos}
-use Rattle.floats.proofs.Cross.{plus, less, cross, iff→eq, or-l, or-r, lt-is, eq-is, le-is, le→cross, cross→le, chain}
+use Rattle.floats.proofs.Cross.{plus, less, cross, iff→eq, or-l, lt-is, eq-is, le-is, le→cross, cross→le, chain}
 
 -- not `nan`
 abbrev pub number : Float → Bool
@@ -35,7 +35,7 @@ pub nan-lt : (x : Float) → lt nan x ≡ false
 unfolding lt
 nan-lt x = refl
 
--- ---- reflexive, transitive, total
+-- ---- reflexive, transitive
 pub le-refl-f : (x : Float) → T (number x) → T (le x x)
 unfolding isNan le
 le-refl-f nan t = absurd t
@@ -77,29 +77,6 @@ le-trans-f (fin s m e) (fin t n d) (fin u o g) h k =
     let z = fin u o g in
     cross→le x z tt tt
     (chain (plus x) (less x) (den x) (plus y) (less y) (den y) (plus z) (less z) (den z) (den-pos y) (le→cross x y tt tt h) (le→cross y z tt tt k))
-
-pub le-total-f : (x y : Float) → T (number x) → T (number y) → T (le x y || le y x)
-unfolding isNan le
-le-total-f nan y p q = absurd p
-le-total-f (inf s) nan p q = absurd q
-le-total-f (inf true) (inf true) p q = tt
-le-total-f (inf true) (inf false) p q = tt
-le-total-f (inf false) (inf true) p q = tt
-le-total-f (inf false) (inf false) p q = tt
-le-total-f (inf true) (fin t n d) p q = tt
-le-total-f (inf false) (fin t n d) p q = tt
-le-total-f (fin s m e) nan p q = absurd q
-le-total-f (fin s m e) (inf true) p q = tt
-le-total-f (fin s m e) (inf false) p q = tt
-le-total-f (fin s m e) (fin t n d) p q =
-    let x = fin s m e in
-    let y = fin t n d in
-    go (leb (cross x y) (cross y x)) (leb→le (cross x y) (cross y x)) (nleb→lt (cross x y) (cross y x))
-  where
-    go : (b : Bool) → (T b → cross (fin s m e) (fin t n d) ≤ cross (fin t n d) (fin s m e)) → (T (not b) → cross (fin t n d) (fin s m e) < cross (fin s m e) (fin t n d))
-        → T (le (fin s m e) (fin t n d) || le (fin t n d) (fin s m e))
-    go true f g = or-l (le (fin s m e) (fin t n d)) (le (fin t n d) (fin s m e)) (cross→le (fin s m e) (fin t n d) tt tt (f tt))
-    go false f g = or-r (le (fin s m e) (fin t n d)) (le (fin t n d) (fin s m e)) (cross→le (fin t n d) (fin s m e) tt tt (le-of-lt (g tt)))
 
 -- ---- `lt` is the negation of `le` the other way round, `eq` is `le` both ways
 ltb-is : (a b : ℕ) → ltb a b ≡ not (leb b a)

@@ -1,5 +1,5 @@
--- Rounded quotients and products of finite values that are not negative: they keep the order, a quotient of a value by a larger one is at most 1,
--- and a product with a factor of at most 1 is at most the other factor. Assumes nothing.
+-- Rounded quotients and products of finite values that are not negative: they are not negative and keep the order, a quotient of a value by a larger one
+-- is at most 1, and a product with a factor of at most 1 is at most the other factor. Assumes nothing.
 use mathlib.Core.Path.{_≡_, refl, sym, subst}
 use Prim.Native.Nat.{ℕ, zero, suc, _*_, _≤_, _<_}
 use native.Mathlib.Nat.{le-trans, le-of-eq, mul-comm, mul-assoc, mul-left-comm, mul-one, one-mul, mul-pos, mul-le-mul, mul-mul-mul-comm, lt-irrefl}
@@ -7,11 +7,14 @@ use native.Mathlib.Omega.{arith}
 use mathlib.Core.Bool.{Bool, true, false, not, cond}
 use lib.IntN.{ℤ, pos}
 use lib.Dec.{T, ltb, eqb, eqb→eq, ltb→lt}
-use lib.Ieee.{Float, nan, inf, fin, Format, up, down, round, mul, div, le, fits, binary32}
+use lib.Ieee.{Float, nan, inf, fin, Format, up, down, round, mul, div, le, lt, eq, fits, binary32}
 use lib.Ieee.Fits.{up-pos, down-pos}
 use lib.Ieee.Order.{round-mono}
 use lib.Ieee.Positive.{positive}
+use lib.Ieee.Scale.{finite}
+use Rattle.floats.specs.Floats.{absOf}
 use Rattle.floats.proofs.Cross.{nonneg-cross}
+use Rattle.floats.proofs.Sign.{nonneg, round-nonneg}
 use Rattle.floats.proofs.Values.{round-back}
 
 abbrev pub one : Float
@@ -32,6 +35,34 @@ magnitude nan = false
 magnitude (inf s) = false
 magnitude (fin s m e) = not s
 
+pub magnitude-nonneg : (x : Float) → T (magnitude x) → T (nonneg x)
+magnitude-nonneg nan p = absurd p
+magnitude-nonneg (inf s) p = absurd p
+magnitude-nonneg (fin s m e) p = p
+
+pub magnitude-finite : (x : Float) → T (magnitude x) → T (finite x)
+magnitude-finite nan p = absurd p
+magnitude-finite (inf s) p = absurd p
+magnitude-finite (fin s m e) p = tt
+
+-- so is the size of a finite value
+pub size-magnitude : (x : Float) → T (finite x) → T (magnitude (absOf x))
+unfolding absOf
+size-magnitude nan f = absurd f
+size-magnitude (inf s) f = absurd f
+size-magnitude (fin s m e) f = tt
+
+-- and what is not negative and at most a finite value
+pub magnitude-below : (x y : Float) → T (nonneg x) → T (finite y) → T (le x y) → T (magnitude x)
+unfolding le lt eq
+magnitude-below nan y p f h = absurd p
+magnitude-below (inf true) y p f h = absurd p
+magnitude-below (inf false) nan p f h = absurd f
+magnitude-below (inf false) (inf s) p f h = absurd f
+magnitude-below (inf false) (fin t n d) p f h = absurd h
+magnitude-below (fin true m e) y p f h = absurd p
+magnitude-below (fin false m e) y p f h = tt
+
 -- ---- quotients
 div-is : (f : Format) (m : ℕ) (e : ℤ) (n : ℕ) (d : ℤ) → T (ltb 0 n) → div f (fin false m e) (fin false n d) ≡ round f false (m * up e * down d) (n * up d * down e)
 unfolding div
@@ -44,6 +75,16 @@ div-is f m e (suc n) d p = go (eqb (suc n) 0) (eqb→eq (suc n) 0)
         bad : (n : ℕ) → suc n ≡ 0 → ⊥
         bad n h = omega arith
     go false h = refl
+
+pub div-nonneg : (f : Format) (x y : Float) → T (magnitude x) → T (positive y) → T (nonneg (div f x y))
+div-nonneg f nan y p q = absurd p
+div-nonneg f (inf s) y p q = absurd p
+div-nonneg f (fin true m e) y p q = absurd p
+div-nonneg f (fin false m e) nan p q = absurd q
+div-nonneg f (fin false m e) (inf s) p q = absurd q
+div-nonneg f (fin false m e) (fin true n d) p q = absurd q
+div-nonneg f (fin false m e) (fin false n d) p q =
+    subst (λ (z : Float). T (nonneg z)) (sym (div-is f m e n d q)) (round-nonneg f (m * up e * down d) (n * up d * down e))
 
 quotients : (x dx x' dx' y dy y' dy' : ℕ) → x * dx' ≤ x' * dx → y' * dy ≤ y * dy' → x * dy * (y' * dx') ≤ x' * dy' * (y * dx)
 quotients x dx x' dx' y dy y' dy' h k =
@@ -85,6 +126,16 @@ div-le-one f (fin false m e) (fin false n d) p q h =
 mul-is : (f : Format) (m : ℕ) (e : ℤ) (n : ℕ) (d : ℤ) → mul f (fin false m e) (fin false n d) ≡ round f false (m * up e * (n * up d)) (down e * down d)
 unfolding mul
 mul-is f m e n d = refl
+
+pub mul-nonneg : (f : Format) (x y : Float) → T (magnitude x) → T (magnitude y) → T (nonneg (mul f x y))
+mul-nonneg f nan y p q = absurd p
+mul-nonneg f (inf s) y p q = absurd p
+mul-nonneg f (fin true m e) y p q = absurd p
+mul-nonneg f (fin false m e) nan p q = absurd q
+mul-nonneg f (fin false m e) (inf s) p q = absurd q
+mul-nonneg f (fin false m e) (fin true n d) p q = absurd q
+mul-nonneg f (fin false m e) (fin false n d) p q =
+    subst (λ (z : Float). T (nonneg z)) (sym (mul-is f m e n d)) (round-nonneg f (m * up e * (n * up d)) (down e * down d))
 
 pub mul-mono-mag : (f : Format) (x x' y y' : Float) → T (magnitude x) → T (magnitude x') → T (magnitude y) → T (magnitude y') → T (le x x') → T (le y y') → T (le (mul f x y) (mul f x' y'))
 mul-mono-mag f nan x' y y' p p' q q' h k = absurd p

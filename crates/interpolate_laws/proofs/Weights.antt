@@ -1,22 +1,23 @@
 -- The weights of a blend: none is a NaN or negative, their sum is no less than any of them, and divided by it each lies from +0 to 1. Assumes nothing.
 use mathlib.Core.Path.{_≡_, refl, sym, subst, _∙_}
-use mathlib.Core.Bool.{Bool, true, false, cond, _&&_}
+use mathlib.Core.Bool.{Bool, true, false, cond}
 use mathlib.Core.List.{List, [], _∷_, _++_, map}
-use Prim.Native.Nat.{ℕ, zero, suc, _*_, _≤_, _<_}
+use Prim.Native.Nat.{ℕ, zero, suc, _≤_, _<_}
 use native.Mathlib.Nat.{zero-lt-suc}
 use native.Mathlib.Omega.{arith}
 use lib.IntN.{ℤ, pos}
-use lib.Dec.{T, T-not, eqb, eqb→eq, lt→ltb, ltb→lt}
+use lib.Dec.{T, T-not, lt→ltb}
 use lib.ListN.{length, length-append, length-map}
-use lib.Ieee.{Float, nan, inf, fin, Format, binary32, up, down, round, sum, add, div, le, lt, fits, isNan, ofBits}
+use lib.Ieee.{Float, nan, inf, fin, binary32, round, sum, add, div, le, lt, fits, isNan, ofBits}
 use lib.Ieee.Fits.{add-fits, div-fits}
 use lib.Ieee.Positive.{positive}
+use lib.Ieee.Scale.{finite}
 use Rattle.floats.specs.Floats.{zero32, one32}
-use Rattle.floats.proofs.Cross.{of-taken, of-left, is-false}
-use Rattle.floats.proofs.Sign.{nonneg, round-nonneg}
+use Rattle.floats.proofs.Cross.{of-taken, of-left, is-false, and-left}
+use Rattle.floats.proofs.Sign.{nonneg}
 use Rattle.floats.proofs.Preorder.{number, le-refl-f, le-trans-f, le-lt-trans, lt→le, not-lt→le, le→not-lt, eq-both, zeros-eq}
 use Rattle.floats.proofs.Ops.{nonneg-number, add-nonneg, add-mono, add-grows, add-grows-r}
-use Rattle.floats.proofs.Ratio.{magnitude, div-le-one, div-mono}
+use Rattle.floats.proofs.Ratio.{magnitude, magnitude-below, div-nonneg, div-le-one, div-mono}
 use Rattle.points.specs.declared.Point3.{Point3}
 use Rattle.mix.specs.declared.Share.{Share}
 use Rattle.delays.specs.declared.Seconds.{Seconds}
@@ -32,28 +33,6 @@ use Rattle.lists.proofs.Laws.{each-append}
 use Rattle.interpolate_laws.specs.Weights.{AllFinite, Portion, Shared}
 use Rattle.interpolate_laws.proofs.Distances.{distance-nonneg}
 
--- ---- quotients
--- of a finite value that is not negative by one above zero
-pub div-nonneg : (f : Format) (x y : Float) → T (magnitude x) → T (positive y) → T (nonneg (div f x y))
-div-nonneg f nan y p q = absurd p
-div-nonneg f (inf s) y p q = absurd p
-div-nonneg f (fin true m e) y p q = absurd p
-div-nonneg f (fin false m e) nan p q = absurd q
-div-nonneg f (fin false m e) (inf s) p q = absurd q
-div-nonneg f (fin false m e) (fin true n d) p q = absurd q
-div-nonneg f (fin false m e) (fin false zero d) p q = absurd (none (ltb→lt 0 0 q))
-  where
-    none : 0 < 0 → ⊥
-    none h = omega arith
-div-nonneg f (fin false m e) (fin false (suc n) d) p q = unfold div in go (eqb (suc n) 0) refl
-  where
-    go : (b : Bool) → eqb (suc n) 0 ≡ b → T (nonneg (cond b (cond (eqb m 0) nan (inf false)) (round f false (m * up e * down d) (suc n * up d * down e))))
-    go true h = absurd (never n (eqb→eq (suc n) 0 (subst T (sym h) tt)))
-      where
-        never : (n : ℕ) → suc n ≡ 0 → ⊥
-        never n e = omega arith
-    go false h = round-nonneg f (m * up e * down d) (suc n * up d * down e)
-
 -- 1 / d, for a distance that is +0, positive or +infinity: never a NaN, never negative
 pub weight-nonneg : (d : Float) → T (nonneg d) → T (nonneg (div binary32 one32 d))
 unfolding div
@@ -66,11 +45,7 @@ weight-nonneg (fin false (suc n) e) p = div-nonneg binary32 one32 (fin false (su
 
 -- a value that is not below 1e-10 is not zero
 zero-le : (e : ℤ) → T (le (fin false 0 e) zero32)
-zero-le e = and-l (le (fin false 0 e) zero32) (le zero32 (fin false 0 e)) (sym (eq-both (fin false 0 e) zero32) ∙ zeros-eq false false e (pos 0))
-  where
-    and-l : (a b : Bool) → (a && b) ≡ true → T a
-    and-l true b h = tt
-    and-l false b h = subst T (sym h) tt
+zero-le e = of-taken (and-left (le (fin false 0 e) zero32) (le zero32 (fin false 0 e)) (sym (eq-both (fin false 0 e) zero32) ∙ zeros-eq false false e (pos 0)))
 
 pub above-zero : (n : ℕ) (e : ℤ) → lt (fin false n e) tiny32 ≡ false → T (positive (fin false n e))
 above-zero zero e h = absurd (no (subst T h (le-lt-trans (fin false 0 e) zero32 tiny32 (zero-le e) zero-below)))
@@ -81,15 +56,6 @@ above-zero zero e h = absurd (no (subst T h (le-lt-trans (fin false 0 e) zero32 
     zero-below : T (lt zero32 tiny32)
     zero-below = unfold lt ofBits in tt
 above-zero (suc n) e h = lt→ltb 0 (suc n) (zero-lt-suc n)
-
--- what is at most the largest f32 is finite
-finite-below : (x : Float) → T (nonneg x) → T (le x largest32) → T (magnitude x)
-unfolding le ofBits
-finite-below nan p h = absurd p
-finite-below (inf true) p h = absurd p
-finite-below (inf false) p h = absurd h
-finite-below (fin true m e) p h = absurd p
-finite-below (fin false m e) p h = tt
 
 -- 1 / 1e-10, which no weight exceeds
 unfoldable pub most32 : Float
@@ -108,6 +74,10 @@ weight-most (fin false n e) p h =
     let d = fin false n e in
     let q = above-zero n e (is-false (lt d tiny32) (T-not (lt d tiny32) (le→not-lt tiny32 d h))) in
     unfold most32 in div-mono binary32 one32 one32 d tiny32 (ends .0) (ends .0) q (ends .1) (ends .2) h
+
+largest-finite : T (finite largest32)
+unfolding ofBits
+largest-finite = tt
 
 most-finite : T (le most32 largest32)
 unfolding most32 le div ofBits round
@@ -190,7 +160,7 @@ heap-finite (suc (suc (suc (suc (suc n))))) h = absurd (omega arith)
 -- so a sum that is not below 1e-10 is finite and above zero
 pub total-positive : (ps : List Share) → length ps ≤ 4 → Each Sound ps → lt (totalOf ps) tiny32 ≡ false → T (positive (totalOf ps))
 total-positive ps h e t =
-    over (totalOf ps) t (finite-below (totalOf ps) (total-nonneg ps zero32 tt (goods ps e))
+    over (totalOf ps) t (magnitude-below (totalOf ps) largest32 (total-nonneg ps zero32 tt (goods ps e)) largest-finite
     (le-trans-f (totalOf ps) (heap (length ps) zero32) largest32 (total-under ps zero32 zero32 tt tt (le-refl-f zero32 (nonneg-number zero32 tt)) e) (heap-finite (length ps) h)))
   where
     over : (x : Float) → lt x tiny32 ≡ false → T (magnitude x) → T (positive x)
@@ -204,7 +174,7 @@ portions-by : (s : Float) (ps : List Share) → T (positive s) → Each Sound ps
     → Each (λ (p : Share). Portion (p .weight)) (map (part s) ps)
 portions-by s [] h e l = tt
 portions-by s (p ∷ ps) h e l =
-    let m = finite-below (p .weight) (e .0 .good .sign) (le-trans-f (p .weight) most32 largest32 (e .0 .most) most-finite) in
+    let m = magnitude-below (p .weight) largest32 (e .0 .good .sign) largest-finite (le-trans-f (p .weight) most32 largest32 (e .0 .most) most-finite) in
     (record { low = div-nonneg binary32 (p .weight) s m h; high = div-le-one binary32 (p .weight) s m h (l .0) }, portions-by s ps h (e .1) (l .1))
 
 pub portions : (ps : List Share) → length ps ≤ 4 → Each Sound ps → lt (totalOf ps) tiny32 ≡ false → Each (λ (p : Share). Portion (p .weight)) (map (part (totalOf ps)) ps)

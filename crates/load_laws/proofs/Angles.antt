@@ -8,8 +8,8 @@ use Rattle.limits.specs.declared.Verdict.the-variants.{Fine}
 use Rattle.limits.proofs.Passed.{Allowed}
 use Rattle.lookup.specs.declared.Lookup.{Lookup}
 use Rattle.coords.specs.Arrays.{lifted}
+use Rattle.coords.specs.Moderate.{Moderate}
 use Rattle.coord_laws.specs.Answered.{ToCartesian}
-use Rattle.coord_laws.proofs.Inside.{Inside}
 use Rattle.coord_laws.proofs.Answered.{triplet-answered}
 use Rattle.neighbor_laws.specs.Answered.{SearchAnswered}
 use Rattle.neighbor_laws.proofs.Answered.{search-answered}
@@ -29,7 +29,7 @@ module _ (g : Given) (fine : judged g ≡ Fine) where
   within-list : (k : ℕ) → k < g .sizes .m → 3 * k + 2 < length (g .positions)
   within-list k h = let z = went g fine .room .exact in omega arith
 
-  place-inside : (k : ℕ) → k < g .sizes .m → Inside (pointAt (after.cart g) k)
+  place-inside : (k : ℕ) → k < g .sizes .m → Moderate (pointAt (after.cart g) k)
   place-inside k h = positions-inside (g .kind) (g .positions) (g .work .cartesian) (went g fine .known) (went g fine .values) k (within-list k h)
 
   pub place-searched : (k : ℕ) → k < g .sizes .m → SearchAnswered (g .angle) (g .radius) (pointAt (after.cart g) k)

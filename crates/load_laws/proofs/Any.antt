@@ -19,7 +19,7 @@ use Rattle.limits.specs.Refusals.{triplets}
 use Rattle.limits.proofs.Passed.{Allowed, values-passed}
 use Rattle.lookup.specs.declared.Lookup as port
 use Rattle.sines.specs.Sines.{plusZero, inRange, sineSteps, cosineSteps}
-use Rattle.angles.specs.declared.Answer.the-variants.{Value, Refused}
+use Rattle.angles.specs.declared.AngleAnswer.the-variants.{Value, Refused}
 use Rattle.angles.specs.Arc.{arctanSteps}
 use Rattle.angles.specs.Says.{sinOf, cosOf, atan2Of, sineSays, cosineSays, arctanSays}
 use Rattle.coords.specs.declared.Spherical.{Spherical}

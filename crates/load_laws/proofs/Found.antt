@@ -9,9 +9,9 @@ use Rattle.lists.specs.Over.{over}
 use Rattle.points.specs.declared.Point3.{Point3}
 use Rattle.points.specs.Points.{pointAt, Finite}
 use Rattle.points.proofs.Distance.{dist-number}
+use Rattle.coords.specs.Moderate.{Moderate}
 use Rattle.limits.specs.declared.Verdict.{Verdict}
 use Rattle.limits.specs.declared.Verdict.the-variants.{Fine}
-use Rattle.coord_laws.proofs.Inside.{Inside}
 use Rattle.lookup.specs.declared.Lookup.{Lookup}
 use Rattle.lookup.specs.declared.Located.{Located}
 use Rattle.lookup.specs.declared.Located.the-variants.{At}
@@ -55,14 +55,14 @@ module _ (g : Given) (fine : judged g ≡ Fine) (q : Point3) (f : Finite q) wher
   room : Room xs m lent
   room = enough (g .kind) (g .sizes) (g .positions) (length (g .responses)) (g .angle) (g .radius) (g .rate) (g .work) fine
 
-  inside : (k : ℕ) → k < m → Inside (pointAt xs k)
-  inside k h = let P = went g fine in positions-inside (g .kind) (g .positions) (g .work .cartesian) (P .known) (P .values) k (let z = P .room .exact in omega arith)
+  moderate : (k : ℕ) → k < m → Moderate (pointAt xs k)
+  moderate k h = let P = went g fine in positions-inside (g .kind) (g .positions) (g .work .cartesian) (P .known) (P .values) k (let z = P .room .exact in omega arith)
 
   finite : (k : ℕ) → k < m → Finite (pointAt xs k)
   finite k h = let P = went g fine in positions-finite (g .kind) (g .positions) (g .work .cartesian) (P .known) (P .values) k (let z = P .room .exact in omega arith)
 
   asked-finite : Finite (clampedBy look q)
-  asked-finite = clamped-finite look q f (loaded-radii xs m (room .some) (λ k h. let i = inside k h in record { x = i .x; y = i .y; z = i .z }))
+  asked-finite = clamped-finite look q f (loaded-radii xs m (room .some) moderate)
 
   box-is : look .bounds ≡ boxOf xs m
   unfolding lookupOf

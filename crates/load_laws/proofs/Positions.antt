@@ -15,8 +15,9 @@ use Rattle.limits.specs.Allowed.{nearest32, within, kindOk}
 use Rattle.limits.proofs.Passed.{Allowed}
 use Rattle.limits.proofs.Ends.{between-finite}
 use Rattle.coords.specs.Arrays.{turned, byTriplets}
+use Rattle.coords.specs.Moderate.{Moderate}
 use Rattle.coords.proofs.Places.{changed-length}
-use Rattle.coord_laws.proofs.Inside.{Inside, list-inside, list-copied}
+use Rattle.coord_laws.proofs.Inside.{list-inside, list-copied}
 use Rattle.loads.specs.Load.{cartesianFrom}
 use Rattle.source.specs.Hrtf.{«convert_array_to_cartesian_if_spherical»}
 use Rattle.source_laws.specs.Drawn.{ported}
@@ -61,7 +62,7 @@ one-of k e = let z = eqb-true (suc k) 1 (rw (ne-eqb (suc k) 0 (λ z. omega arith
 
 -- EACH POINT'S COORDINATES ARE OF MAGNITUDE AT MOST 10001, copied or converted
 pub positions-inside : (kind : ℕ) (xs d : List Float) → kindOk kind ≡ true → Allowed kind xs (length xs) → (place : ℕ) → 3 * place + 2 < length xs
-    → Inside (pointAt (over (cartesianFrom kind xs) d) place)
+    → Moderate (pointAt (over (cartesianFrom kind xs) d) place)
 positions-inside zero xs d known ok place h = rw (copied xs) (rw (front-point xs d place h) (list-copied xs (length xs) ok place h))
 positions-inside (suc k) xs d known ok place h =
     let l = changed-length (turned 1) xs in

@@ -9,7 +9,7 @@ use lib.Ieee.{Float}
 use Rattle.points.specs.Points.{pointAt}
 use Rattle.limits.specs.declared.Verdict.the-variants.{Fine}
 use Rattle.limits.specs.Refusals.{verdictOf, valueLines}
-use Rattle.angles.specs.declared.Answer.the-variants.{Value}
+use Rattle.angles.specs.declared.AngleAnswer.the-variants.{Value}
 use Rattle.angles.specs.Says.{sineSays, cosineSays, arctanSays}
 use Rattle.coords.specs.Arrays.{lifted}
 use Rattle.coord_laws.specs.Answered.{ToCartesian, ToSpherical}

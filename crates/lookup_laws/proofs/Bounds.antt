@@ -16,16 +16,19 @@ use Rattle.floats.proofs.Cross.{cross→le}
 use Rattle.floats.proofs.Sign.{nonneg}
 use Rattle.floats.proofs.Ops.{finite-number, sq-nonneg, sq-mono, add-nonneg, add-mono, neg-le}
 use Rattle.floats.proofs.Preorder.{le-trans-f, le-lt-trans}
+use Rattle.floats.proofs.Ratio.{magnitude-nonneg, size-magnitude, magnitude-below}
 use Rattle.points.specs.declared.Point3.{Point3}
 use Rattle.points.specs.Points.{pointAt}
 use Rattle.root.specs.Root.{rootOf}
-use Rattle.root.proofs.Laws.{rootOf-nonneg, rootOf-mono}
+use Rattle.root.proofs.Laws.{rootOf-mono}
 use Rattle.coords.specs.Coords.{radiusOf, sphericalOf}
+use Rattle.coords.specs.Moderate.{Moderate}
+use Rattle.coords.proofs.Radii.{radius-nonneg}
 use Rattle.limits.specs.Allowed.{nearest32, within}
 use Rattle.limits.proofs.Ends.{between-low, between-high}
 use Rattle.lookup.specs.Build.{leastOf, greatestOf, top32, bottom32, lookupOf}
-use Rattle.lookup_laws.specs.Clamp.{Measured, Radii, reach}
-use Rattle.lookup_laws.proofs.Clamp.{bounded, size-square, sum, sum-nonneg}
+use Rattle.lookup_laws.specs.Clamp.{Radii, reach}
+use Rattle.lookup_laws.proofs.Clamp.{size-square, sum, sum-nonneg}
 
 -- ---- one measurement
 
@@ -51,14 +54,9 @@ square-most : (c : Float) → within 10001 1 c ≡ true → T (le (mul binary32 
 unfolding absOf
 square-most c e =
     let z = within-size c e in
-    subst (λ (w : Float). T (le w square)) (size-square c (z .0)) (sq-mono binary32 (absOf c) far (size-nonneg c (z .0)) (unfold round in tt) (z .1))
-  where
-    size-nonneg : (c : Float) → T (finite c) → T (nonneg (absOf c))
-    size-nonneg nan f = absurd f
-    size-nonneg (inf s) f = absurd f
-    size-nonneg (fin s m e) f = tt
+    subst (λ (w : Float). T (le w square)) (size-square c (z .0)) (sq-mono binary32 (absOf c) far (magnitude-nonneg (absOf c) (size-magnitude c (z .0))) (unfold round in tt) (z .1))
 
-module _ (p : Point3) (mp : Measured p) where
+module _ (p : Point3) (mp : Moderate p) where
   abbrev fx : T (finite (p .x))
   fx = within-size (p .x) (mp .x) .0
 
@@ -74,9 +72,8 @@ module _ (p : Point3) (mp : Measured p) where
   all-fits : T (fits binary32 all)
   all-fits = add-fits binary32 (add binary32 (mul binary32 (p .x) (p .x)) (mul binary32 (p .y) (p .y))) (mul binary32 (p .z) (p .z))
 
-  radius-nonneg : T (nonneg (radiusOf p))
-  unfolding radiusOf
-  radius-nonneg = rootOf-nonneg all all-fits (sum-nonneg (p .x) (p .y) (p .z) fx fy fz)
+  radius-some : T (nonneg (radiusOf p))
+  radius-some = radius-nonneg p (finite-number (p .x) fx) (finite-number (p .y) fy) (finite-number (p .z) fz)
 
   abbrev bound : Float
   bound = add binary32 (add binary32 square square) square
@@ -148,24 +145,24 @@ module _ (xs : List Float) where
   abbrev greatest : ℕ → Float
   greatest = greatestOf (λ s. s .radius) xs
 
-  one : (i : ℕ) → Measured (pointAt xs i) → Fine (sphericalOf (pointAt xs i) .radius)
+  one : (i : ℕ) → Moderate (pointAt xs i) → Fine (sphericalOf (pointAt xs i) .radius)
   unfolding sphericalOf
-  one i m = (radius-nonneg (pointAt xs i) m, radius-most (pointAt xs i) m)
+  one i m = (radius-some (pointAt xs i) m, radius-most (pointAt xs i) m)
 
-  least-fine : (n : ℕ) → ((i : ℕ) → i < suc n → Measured (pointAt xs i)) → Fine (least (suc n))
+  least-fine : (n : ℕ) → ((i : ℕ) → i < suc n → Moderate (pointAt xs i)) → Fine (least (suc n))
   unfolding leastOf
   least-fine zero f = let z = one 0 (f 0 (omega arith)) in subst Fine (sym (first-least (sphericalOf (pointAt xs 0) .radius) z)) z
   least-fine (suc n) f = min-fine (least (suc n)) (sphericalOf (pointAt xs (suc n)) .radius) (least-fine n (λ i h. f i (omega arith))) (one (suc n) (f (suc n) (omega arith)))
 
-  greatest-fine : (n : ℕ) → ((i : ℕ) → i < suc n → Measured (pointAt xs i)) → T (nonneg (greatest (suc n)))
+  greatest-fine : (n : ℕ) → ((i : ℕ) → i < suc n → Moderate (pointAt xs i)) → T (nonneg (greatest (suc n)))
   unfolding greatestOf
   greatest-fine zero f = let z = one 0 (f 0 (omega arith)) .0 in subst (λ (r : Float). T (nonneg r)) (sym (first-greatest (sphericalOf (pointAt xs 0) .radius) z)) z
   greatest-fine (suc n) f = max-nonneg (greatest (suc n)) (sphericalOf (pointAt xs (suc n)) .radius) (greatest-fine n (λ i h. f i (omega arith))) (one (suc n) (f (suc n) (omega arith)) .0)
 
   -- THE BOUNDS OF A LOADED SET are as the clamp's laws ask
-  pub loaded-radii : (m : ℕ) → 0 < m → ((i : ℕ) → i < m → Measured (pointAt xs i)) → Radii (lookupOf xs m)
+  pub loaded-radii : (m : ℕ) → 0 < m → ((i : ℕ) → i < m → Moderate (pointAt xs i)) → Radii (lookupOf xs m)
   unfolding lookupOf
   loaded-radii zero h f = absurd (omega arith)
   loaded-radii (suc n) h f =
       let z = least-fine n f in
-      record { greatest = greatest-fine n f; some = bounded (least (suc n)) reach (z .0) tt (z .1); least = z .1 }
+      record { greatest = greatest-fine n f; some = magnitude-below (least (suc n)) reach (z .0) tt (z .1); least = z .1 }

@@ -7,17 +7,16 @@ use native.Mathlib.Nat.{zero-lt-suc, mul-pos, le-trans, mul-le-mul, le-of-eq, on
 use native.Mathlib.Omega.{arith}
 use lib.Dec.{T, T-not, ltb, leb, eqb, ltb→lt, lt→ltb, leb→le}
 use lib.IntN.{ℤ, pos, negsuc}
-use lib.Ieee.{Float, nan, inf, fin, binary32, up, down, unlike, add, mul, div, neg, round, lt, le, eq, fits}
+use lib.Ieee.{Float, nan, inf, fin, binary32, up, down, add, mul, div, neg, round, lt, le, eq, fits}
 use lib.Ieee.Fits.{and-l, and-r, up-pos, down-pos, add-fits, mul-fits}
 use lib.Ieee.Scale.{finite, round-same}
 use lib.Ieee.Positive.{positive, cross→le}
-use borrow.Author.Tests.{ne-eqb}
 use Rattle.floats.specs.Floats.{zero32, absOf}
 use Rattle.floats.proofs.Cross.{of-taken, of-left}
-use Rattle.floats.proofs.Sign.{nonneg, round-neg, round-nonneg, sq-neg}
-use Rattle.floats.proofs.Ops.{finite-number, sq-nonneg, sq-mono, add-nonneg, add-grows, add-grows-r}
+use Rattle.floats.proofs.Sign.{nonneg, round-neg, sq-neg}
+use Rattle.floats.proofs.Ops.{finite-number, neg-finite, sq-nonneg, sq-mono, add-nonneg, add-grows, add-grows-r}
 use Rattle.floats.proofs.Preorder.{le-trans-f, lt→le, le→not-lt, not-lt→le, lt-le-trans}
-use Rattle.floats.proofs.Ratio.{one, magnitude, div-mono, div-le-one, mul-mono-mag}
+use Rattle.floats.proofs.Ratio.{one, magnitude, magnitude-nonneg, magnitude-finite, size-magnitude, magnitude-below, div-nonneg, div-mono, div-le-one, mul-nonneg, mul-mono-mag}
 use Rattle.points.specs.declared.Point3.{Point3}
 use Rattle.points.specs.Points.{Finite}
 use Rattle.root.specs.Root.{rootOf}
@@ -26,51 +25,6 @@ use Rattle.coords.specs.Coords.{radiusOf}
 use Rattle.lookup.specs.declared.Lookup.{Lookup}
 use Rattle.lookup.specs.Lookup.{scaled, clampedTo, clampedBy}
 use Rattle.lookup_laws.specs.Clamp.{zeroLike, Radii, reach}
-
--- ---- values that are finite and not negative
-
--- what is not negative and at most a finite value is a magnitude
-pub bounded : (x y : Float) → T (nonneg x) → T (finite y) → T (le x y) → T (magnitude x)
-unfolding le lt eq
-bounded nan y p f h = absurd p
-bounded (inf true) y p f h = absurd p
-bounded (inf false) nan p f h = absurd f
-bounded (inf false) (inf s) p f h = absurd f
-bounded (inf false) (fin t n d) p f h = absurd h
-bounded (fin true m e) y p f h = absurd p
-bounded (fin false m e) y p f h = tt
-
-magnitude-nonneg : (x : Float) → T (magnitude x) → T (nonneg x)
-magnitude-nonneg nan p = absurd p
-magnitude-nonneg (inf s) p = absurd p
-magnitude-nonneg (fin s m e) p = p
-
-pub magnitude-finite : (x : Float) → T (magnitude x) → T (finite x)
-magnitude-finite nan p = absurd p
-magnitude-finite (inf s) p = absurd p
-magnitude-finite (fin s m e) p = tt
-
-mul-nonneg : (x y : Float) → T (magnitude x) → T (magnitude y) → T (nonneg (mul binary32 x y))
-unfolding mul
-mul-nonneg nan y p q = absurd p
-mul-nonneg (inf s) y p q = absurd p
-mul-nonneg (fin true m e) y p q = absurd p
-mul-nonneg (fin false m e) nan p q = absurd q
-mul-nonneg (fin false m e) (inf s) p q = absurd q
-mul-nonneg (fin false m e) (fin true n d) p q = absurd q
-mul-nonneg (fin false m e) (fin false n d) p q = round-nonneg binary32 (m * up e * (n * up d)) (down e * down d)
-
-div-nonneg : (x y : Float) → T (magnitude x) → T (positive y) → T (nonneg (div binary32 x y))
-unfolding div
-div-nonneg nan y p q = absurd p
-div-nonneg (inf s) y p q = absurd p
-div-nonneg (fin true m e) y p q = absurd p
-div-nonneg (fin false m e) nan p q = absurd q
-div-nonneg (fin false m e) (inf s) p q = absurd q
-div-nonneg (fin false m e) (fin true n d) p q = absurd q
-div-nonneg (fin false m e) (fin false n d) p q =
-    subst (λ (b : Bool). T (nonneg (cond b (cond (eqb m 0) nan (inf (unlike false false))) (round binary32 (unlike false false) (m * up e * down d) (n * up d * down e)))))
-    (sym (ne-eqb n 0 (λ z. let h = ltb→lt 0 n q in omega arith))) (round-nonneg binary32 (m * up e * down d) (n * up d * down e))
 
 -- ---- drawn in
 
@@ -91,19 +45,13 @@ scale-in (fin false m g) (fin false n d) p e =
     let h = ltb→lt (m * up g * down d) (n * up d * down g) (of-taken e) in
     let q : T (positive (fin false n d)) = lt→ltb 0 n (some n (up d) (down g) (m * up g * down d) h) in
     let l = div-le-one binary32 (fin false m g) (fin false n d) tt q (lt→le (fin false m g) (fin false n d) (of-taken e)) in
-    (bounded (div binary32 (fin false m g) (fin false n d)) one (div-nonneg (fin false m g) (fin false n d) tt q) tt l, l)
+    (magnitude-below (div binary32 (fin false m g) (fin false n d)) one (div-nonneg binary32 (fin false m g) (fin false n d) tt q) tt l, l)
   where
     some : (n u v a : ℕ) → a < n * u * v → 0 < n
     some zero u v a h = absurd (omega arith)
     some (suc n) u v a h = omega arith
 
 -- ---- a coordinate times a scale
-
-neg-finite : (x : Float) → T (finite x) → T (finite (neg x))
-unfolding neg
-neg-finite nan f = absurd f
-neg-finite (inf s) f = absurd f
-neg-finite (fin s m e) f = tt
 
 -- the sign of a coordinate does not matter
 other-sign : (m : ℕ) (e : ℤ) (s : Float) → T (magnitude s) → T (finite (mul binary32 (fin false m e) s)) → T (finite (mul binary32 (fin true m e) s))
@@ -194,12 +142,6 @@ size-square (inf s) f = absurd f
 size-square (fin false m e) f = refl
 size-square (fin true m e) f = sym (unfold neg in sq-neg binary32 (fin false m e))
 
-pub size-magnitude : (x : Float) → T (finite x) → T (magnitude (absOf x))
-unfolding absOf
-size-magnitude nan f = absurd f
-size-magnitude (inf s) f = absurd f
-size-magnitude (fin s m e) f = tt
-
 root-reach : T (le reach (rootOf (mul binary32 reach reach)))
 unfolding rootOf mul le lt eq
 root-reach = tt
@@ -254,13 +196,13 @@ module _ (s least : Float) (w : T (fits binary32 s)) (p : T (positive s)) (q : T
   k-most = div-mono binary32 least reach (rootOf s) (rootOf tiny) q tt (rootOf-positive s w p) tiny-root l (rootOf-mono tiny s (unfold fits in tt) w tt p (tiny-least s w p))
 
   k-magnitude : T (magnitude k)
-  k-magnitude = bounded k steep (div-nonneg least (rootOf s) q (rootOf-positive s w p)) steep-finite k-most
+  k-magnitude = magnitude-below k steep (div-nonneg binary32 least (rootOf s) q (rootOf-positive s w p)) steep-finite k-most
 
   grown : (x : Float) → T (finite x) → T (le (mul binary32 x x) s) → T (finite (mul binary32 (absOf x) k))
   grown x f u =
       let m = size-magnitude x f in
       let b = mul-mono-mag binary32 (absOf x) reach k steep m tt k-magnitude steep-magnitude (coordinate-bound x s least f w p u h l) k-most in
-      magnitude-finite (mul binary32 (absOf x) k) (bounded (mul binary32 (absOf x) k) (mul binary32 reach steep) (mul-nonneg (absOf x) k m k-magnitude) farthest b)
+      magnitude-finite (mul binary32 (absOf x) k) (magnitude-below (mul binary32 (absOf x) k) (mul binary32 reach steep) (mul-nonneg binary32 (absOf x) k m k-magnitude) farthest b)
 
   stretched : (x : Float) → T (finite x) → T (le (mul binary32 x x) s) → T (finite (mul binary32 x k))
   unfolding absOf
@@ -312,7 +254,7 @@ widest = tt
 
 -- a size that is at most 2 ^ 64, by a scale that is at most 1
 shrunk-size : (x s : Float) → T (magnitude x) → T (le x wide) → T (magnitude s) → T (le s one) → T (finite (mul binary32 x s))
-shrunk-size x s p l q h = magnitude-finite (mul binary32 x s) (bounded (mul binary32 x s) (mul binary32 wide one) (mul-nonneg x s p q) widest (mul-mono-mag binary32 x wide s one p tt q tt l h))
+shrunk-size x s p l q h = magnitude-finite (mul binary32 x s) (magnitude-below (mul binary32 x s) (mul binary32 wide one) (mul-nonneg binary32 x s p q) widest (mul-mono-mag binary32 x wide s one p tt q tt l h))
 
 shrunk : (x s : Float) → T (finite x) → T (le (absOf x) wide) → T (magnitude s) → T (le s one) → T (finite (mul binary32 x s))
 unfolding absOf
@@ -343,7 +285,7 @@ drawn-in x (inf false) g f n u p e = unfold rootOf in overflowed x g f p (unfold
 drawn-in x (fin true m d) g f n u p e = absurd n
 drawn-in x (fin false m d) g f n u p e =
     let k = scale-in g (rootOf (fin false m d)) p e in
-    let w = bounded (mul binary32 x x) (fin false m d) (sq-nonneg binary32 x (finite-number x f)) tt u in
+    let w = magnitude-below (mul binary32 x x) (fin false m d) (sq-nonneg binary32 x (finite-number x f)) tt u in
     shrunk x (div binary32 g (rootOf (fin false m d))) f (small-square x f (magnitude-finite (mul binary32 x x) w)) (k .0) (k .1)
 
 -- ---- the laws

@@ -14,7 +14,7 @@ use lib.Ieee.Exact.{HasValue}
 use lib.Ieee.Fits.{up-pos, down-pos}
 use lib.Ieee.Order.{round-mono, le-of-values}
 use lib.Ieee.Scale.{finite}
-use Rattle.floats.specs.Floats.{zero32, clampOf}
+use Rattle.floats.specs.Floats.{zero32, absOf, clampOf}
 use Rattle.floats.proofs.Cross.{le→cross, of-left}
 use Rattle.floats.proofs.Ops.{finite-number}
 use Rattle.floats.proofs.Preorder.{le-trans-f, not-lt→le}
@@ -170,8 +170,8 @@ tilted-small v f = go (lt v lo) (lt hi v) refl refl
     hi = ofBits binary32 0x42b40000
 
     go : (a b : Bool) → lt v lo ≡ a → lt hi v ≡ b → Small (nearest32 90 1) (cond a lo (cond b hi v))
-    go true b p q = unfold round ofBits le lt eq in record { held = tt; most = tt }
-    go false true p q = unfold round ofBits le lt eq in record { held = tt; most = tt }
+    go true b p q = unfold round ofBits le lt eq absOf in record { held = tt; most = tt }
+    go false true p q = unfold round ofBits le lt eq absOf in record { held = tt; most = tt }
     go false false p q = between-small (nearest32 90 1) v f
         (unfold round neg ofBits isNan in not-lt→le v lo (finite-number v f) tt (of-left p))
         (unfold round ofBits isNan in not-lt→le hi v tt (finite-number v f) (of-left q))

@@ -1,11 +1,12 @@
 -- The step cap of an allowed angle step is 1 to 450. Assumes nothing.
-use mathlib.Core.Path.{_≡_, refl}
-use mathlib.Core.Bool.{Bool, true, false}
+use mathlib.Core.Path.{_≡_}
+use mathlib.Core.Bool.{true, false}
 use Prim.Native.Nat.{ℕ, zero, suc, _≤_}
 use native.Mathlib.Omega.{arith}
 use lib.Dec.{T}
 use lib.IntN.{pos}
 use lib.Ieee.{Float, fin, binary32, div, le, lt, ofBits, round}
+use lib.Ieee.Bits.{is-true}
 use lib.Ieee.Positive.{positive, positive-finite, between}
 use Rattle.floats.specs.Floats.{ceilOf}
 use Rattle.floats.proofs.Preorder.{le-trans-f, le-lt-trans}
@@ -48,7 +49,7 @@ module _ (angle : Float) (ok : angleStepOk angle ≡ true) where
   unfolding angleCap ofBits
   cap-some =
       some (ceilOf v) (le-trans-f (fin false 1 (pos 0)) v (fin false (ceilOf v) (pos 0)) at-least
-      (ceil-enough v (positive-finite v (between (fin false 1 (pos 0)) v (fin false 450 (pos 0)) tt tt at-least at-most)) (taken (lt v top) (le-lt-trans v (fin false 450 (pos 0)) top at-most small))))
+      (ceil-enough v (positive-finite v (between (fin false 1 (pos 0)) v (fin false 450 (pos 0)) tt tt at-least at-most)) (is-true (lt v top) (le-lt-trans v (fin false 450 (pos 0)) top at-most small))))
     where
       v : Float
       v = div binary32 turn45 angle
@@ -58,10 +59,6 @@ module _ (angle : Float) (ok : angleStepOk angle ≡ true) where
 
       small : T (lt (fin false 450 (pos 0)) top)
       small = unfold lt in tt
-
-      taken : (b : Bool) → T b → b ≡ true
-      taken true t = refl
-      taken false t = absurd t
 
       some : (n : ℕ) → T (le (fin false 1 (pos 0)) (fin false n (pos 0))) → 1 ≤ n
       some zero t = unfold le lt in absurd t

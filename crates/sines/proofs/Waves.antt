@@ -19,13 +19,13 @@ xor-false true b h = absurd (true≢false h)
 xor-false false true h = refl
 xor-false false false h = refl
 
-pub abs-below : (x : Float) → lt x plusZero ≡ true → neg x ≡ absf x
+pub size-below : (x : Float) → lt x plusZero ≡ true → neg x ≡ absf x
 unfolding absf
-abs-below x h = sym (ap (λ (b : Bool). cond b (neg x) x) h)
+size-below x h = sym (ap (λ (b : Bool). cond b (neg x) x) h)
 
-pub abs-else : (x : Float) → lt x plusZero ≡ false → x ≡ absf x
+pub size-else : (x : Float) → lt x plusZero ≡ false → x ≡ absf x
 unfolding absf
-abs-else x h = sym (ap (λ (b : Bool). cond b (neg x) x) h)
+size-else x h = sym (ap (λ (b : Bool). cond b (neg x) x) h)
 
 -- ---- the rest
 pub rest-is : (q : ℕ) (a b w : Float) → b ≡ a → w ≡ absf (less b (times (ofInt binary64 (pos (even q))) (num 4605249457297304856))) → w ≡ restOf q a

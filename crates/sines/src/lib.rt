@@ -130,7 +130,8 @@ pub fn differ(a: bool, b: bool) -> bool
 
 // The sine of a, from 2^-12 to 16, negated where `minus`.
 fn sin_from(minus: bool, a: f32) -> f32
-    requires { ⌜ T (finite a) × (places 40 a ≤ 17592186044416) ⌝ }
+    requires { ⌜ T (finite a)
+        × (places 40 a ≤ 17592186044416) ⌝ }
     ensures { λ r. ⌜ r ≡ sinFrom minus a ⌝ }
 {
     let q = eighth(bits::fixed(a, 40));
@@ -140,7 +141,8 @@ fn sin_from(minus: bool, a: f32) -> f32
 }
 
 fn cos_from(a: f32) -> f32
-    requires { ⌜ T (finite a) × (places 40 a ≤ 17592186044416) ⌝ }
+    requires { ⌜ T (finite a)
+        × (places 40 a ≤ 17592186044416) ⌝ }
     ensures { λ r. ⌜ r ≡ cosFrom a ⌝ }
 {
     let q = eighth(bits::fixed(a, 40));

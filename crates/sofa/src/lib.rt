@@ -11,7 +11,7 @@ ghost use mathlib.Core.Path.{_≡_};
 ghost use Rattle.root.specs.Root.{rootOf};
 ghost use Rattle.angles.specs.Says.{sineSays, cosineSays, arctanSays};
 ghost use Rattle.sofa.specs.Border.{valueAs, versionNumber};
-use angles::Answer;
+use angles::AngleAnswer;
 
 pub mod convert;
 pub mod set;
@@ -31,16 +31,16 @@ pub struct SofaValue {
     pub value: f32,
 }
 
-fn told(a: Answer) -> SofaValue
+fn told(a: AngleAnswer) -> SofaValue
     ensures { λ r. ⌜ r ≡ valueAs a ⌝ }
 {
     match a {
-        Answer::Value(v) => SofaValue {
+        AngleAnswer::Value(v) => SofaValue {
             reason: 0,
             place: 0,
             value: v,
         },
-        Answer::Refused(n, p) => SofaValue {
+        AngleAnswer::Refused(n, p) => SofaValue {
             reason: n,
             place: p,
             value: 0.0,

@@ -12,8 +12,8 @@ use Rattle.root.proofs.Nearest.{rootOf-rounded}
 use Rattle.root.proofs.Laws.{rounded-unique}
 use Rattle.sines.specs.Sines.{inRange, sineSteps, cosineSteps}
 use Rattle.angles.specs.Arc.{arctanSteps}
-use Rattle.angles.specs.declared.Answer.{Answer}
-use Rattle.angles.specs.declared.Answer.the-variants.{Value, Refused}
+use Rattle.angles.specs.declared.AngleAnswer.{AngleAnswer}
+use Rattle.angles.specs.declared.AngleAnswer.the-variants.{Value, Refused}
 use Rattle.angles.specs.Says.{sineSays, cosineSays, arctanSays}
 use Rattle.angle_laws.specs.Angle.{Ratio, closeTo}
 use Rattle.angle_laws.specs.Asked.{Arctan}
@@ -51,7 +51,7 @@ root-heard x r says fit = subst (RootHeard x) (sym says) (record {
 
 -- ---- sine, cosine, arctangent
 
-abbrev sayBy : Bool → Float → ℕ → Answer
+abbrev sayBy : Bool → Float → ℕ → AngleAnswer
 sayBy b v place = cond b (Value v) (Refused 7 place)
 
 value-is : (b : Bool) (x : Float) (v : SofaValue) (place : ℕ) → v ≡ valueAs (sayBy b x place) → T b → v ≡ record { reason = 0; place = 0; value = x }

@@ -1,12 +1,12 @@
 // The leaves on odd values: zeros, subnormals, ends of ranges, infinities, NaN; each alone, and each with each.
 use crate::show;
-use angles::Answer;
+use angles::AngleAnswer;
 
-fn answer(name: &[u8], a: Answer) {
+fn answer(name: &[u8], a: AngleAnswer) {
     show::word(name);
     match a {
-        Answer::Value(v) => show::hex(v),
-        Answer::Refused(number, place) => {
+        AngleAnswer::Value(v) => show::hex(v),
+        AngleAnswer::Refused(number, place) => {
             show::word(b" refused");
             show::decimal(number as usize);
             show::decimal(place);

@@ -10,11 +10,11 @@ use Rattle.angles.proofs.certified.Tie as tie
 
 fixed-requires : tie.Need-fixed-requires
 unfolding ofBits
-fixed-requires c κs = let a = fixed-asks (c .before .args .c) (c .before .pre .1 .1) (c .if1 .taken) in (a .0, lit≤ tt, below-word _ (a .1))
+fixed-requires c κs = let a = fixed-asks (c .before .args .c) (c .before .pre .2) (c .if1 .taken) in (a .0, lit≤ tt, below-word _ (a .1))
 
 on-grid-requires : tie.Need-on-grid-requires
 unfolding ofBits
-on-grid-requires c κs = (c .before .before .pre .0, (c .before .before .pre .1 .0, subst (λ (z : ℕ). z ≤ 17592186044416) (sym (c .fixed .ensures)) (fixed-asks (c .before .before .args .c) (c .before .before .pre .1 .1) (c .before .if1 .taken) .1)))
+on-grid-requires c κs = (c .before .before .pre .0, c .before .before .pre .1, subst (λ (z : ℕ). z ≤ 17592186044416) (sym (c .fixed .ensures)) (fixed-asks (c .before .before .args .c) (c .before .before .pre .2) (c .before .if1 .taken) .1))
 
 returns : tie.Need-returns
 unfolding ofBits

@@ -10,25 +10,25 @@ mul-t : tie.Need-mul-t
 mul-t c = record { fits = square-mul (c .args .a) (c .pre) }
 
 level-requires : tie.Need-level-requires
-level-requires c κs = (square-le (c .args .a) (c .pre), ((lit≤ tt), lit≤ tt))
+level-requires c κs = (square-le (c .args .a) (c .pre), lit≤ tt, lit≤ tt)
 
 level-requires-2 : tie.Need-level-requires-2
-level-requires-2 c κs = (square-le (c .before .args .a) (c .before .pre), ((level-le _ _ _ _ (c .level .ensures)), lit≤ tt))
+level-requires-2 c κs = (square-le (c .before .args .a) (c .before .pre), level-le _ _ _ _ (c .level .ensures), lit≤ tt)
 
 level-requires-3 : tie.Need-level-requires-3
-level-requires-3 c κs = (square-le (c .before .before .args .a) (c .before .before .pre), ((level-le _ _ _ _ (c .level2 .ensures)), lit≤ tt))
+level-requires-3 c κs = (square-le (c .before .before .args .a) (c .before .before .pre), level-le _ _ _ _ (c .level2 .ensures), lit≤ tt)
 
 level-requires-4 : tie.Need-level-requires-4
-level-requires-4 c κs = (square-le (c .before .before .before .args .a) (c .before .before .before .pre), ((level-le _ _ _ _ (c .level3 .ensures)), lit≤ tt))
+level-requires-4 c κs = (square-le (c .before .before .before .args .a) (c .before .before .before .pre), level-le _ _ _ _ (c .level3 .ensures), lit≤ tt)
 
 level-requires-5 : tie.Need-level-requires-5
-level-requires-5 c κs = (square-le (c .before .before .before .before .args .a) (c .before .before .before .before .pre), ((level-le _ _ _ _ (c .level4 .ensures)), lit≤ tt))
+level-requires-5 c κs = (square-le (c .before .before .before .before .args .a) (c .before .before .before .before .pre), level-le _ _ _ _ (c .level4 .ensures), lit≤ tt)
 
 level-requires-6 : tie.Need-level-requires-6
-level-requires-6 c κs = (square-le (c .before .before .before .before .before .args .a) (c .before .before .before .before .before .pre), ((level-le _ _ _ _ (c .level5 .ensures)), lit≤ tt))
+level-requires-6 c κs = (square-le (c .before .before .before .before .before .args .a) (c .before .before .before .before .before .pre), level-le _ _ _ _ (c .level5 .ensures), lit≤ tt)
 
 level-requires-7 : tie.Need-level-requires-7
-level-requires-7 c κs = (square-le (c .before .before .before .before .before .before .args .a) (c .before .before .before .before .before .before .pre), ((level-le _ _ _ _ (c .level6 .ensures)), lit≤ tt))
+level-requires-7 c κs = (square-le (c .before .before .before .before .before .before .args .a) (c .before .before .before .before .before .before .pre), level-le _ _ _ _ (c .level6 .ensures), lit≤ tt)
 
 mul-result : tie.Need-mul-result
 mul-result c = omega arith

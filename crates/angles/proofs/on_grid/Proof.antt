@@ -14,13 +14,13 @@ eighth-requires : tie.Need-eighth-requires
 eighth-requires c κs = search needs
 
 rest-of-requires : tie.Need-rest-of-requires
-rest-of-requires c κs = (scan-le (c .before .args .x) (c .eighth .result) (c .before .pre .1 .1) (c .eighth .ensures), c .before .pre .1 .1)
+rest-of-requires c κs = (scan-le (c .before .args .x) (c .eighth .result) (c .before .pre .2) (c .eighth .ensures), c .before .pre .2)
 
 add-on-turn : tie.Need-add-on-turn
-add-on-turn c = let h = scan-le (c .before .before .args .x) (c .before .eighth .result) (c .before .before .pre .1 .1) (c .before .eighth .ensures) in omega arith
+add-on-turn c = let h = scan-le (c .before .before .args .x) (c .before .eighth .result) (c .before .before .pre .2) (c .before .eighth .ensures) in omega arith
 
 small : (c : tie.After-rest-of) → c .rest-of .result < 17179869184
-small c = subst (λ (z : ℕ). z < 17179869184) (sym (c .rest-of .ensures)) (subst (λ (q : ℕ). rest q (c .before .before .args .x) < 17179869184) (sym (c .before .eighth .ensures)) (rest-lt (c .before .before .args .x) (c .before .before .pre .1 .1)))
+small c = subst (λ (z : ℕ). z < 17179869184) (sym (c .rest-of .ensures)) (subst (λ (q : ℕ). rest q (c .before .before .args .x) < 17179869184) (sym (c .before .eighth .ensures)) (rest-lt (c .before .before .args .x) (c .before .before .pre .2)))
 
 sin-fix-requires : tie.Need-sin-fix-requires
 sin-fix-requires c κs = small c
@@ -29,7 +29,7 @@ cos-fix-requires : tie.Need-cos-fix-requires
 cos-fix-requires c κs = small (c .before)
 
 on-turn-requires : tie.Need-on-turn-requires
-on-turn-requires c κs = (c .before .before .before .before .pre .0, (c .before .before .before .before .pre .1 .0, (sin-got _ (c .before .sin-fix .result) (small (c .before .before)) (c .before .sin-fix .ensures), cos-got _ (c .cos-fix .result) (c .cos-fix .ensures))))
+on-turn-requires c κs = (c .before .before .before .before .pre .0, c .before .before .before .before .pre .1, sin-got _ (c .before .sin-fix .result) (small (c .before .before)) (c .before .sin-fix .ensures), cos-got _ (c .cos-fix .result) (c .cos-fix .ensures))
 
 returns : tie.Need-returns
 unfolding gridTest

@@ -21,20 +21,20 @@ pattern c = read (c .args .w) (held c) (unit c)
 float-to-bits-b : tie.Need-float-to-bits-b
 float-to-bits-b c = no-nan (c .args .w) (unit c)
 
-add-nearest : tie.Need-add-nearest
-add-nearest c = search needs
+add-to-nearest : tie.Need-add-to-nearest
+add-to-nearest c = search needs
 
-cast-nearest : tie.Need-cast-nearest
-cast-nearest c = let r = pattern c in omega (arith, r .field-high)
+cast-to-nearest : tie.Need-cast-to-nearest
+cast-to-nearest c = let r = pattern c in omega (arith, r .field-high)
 
-sub-nearest : tie.Need-sub-nearest
-sub-nearest c = let r = pattern c in omega (arith, r .field-high)
+sub-to-nearest : tie.Need-sub-to-nearest
+sub-to-nearest c = let r = pattern c in omega (arith, r .field-high)
 
-nearest-requires : tie.Need-nearest-requires
-nearest-requires c κs = let r = pattern c in omega (arith, r .field-low)
+to-nearest-requires : tie.Need-to-nearest-requires
+to-nearest-requires c κs = let r = pattern c in omega (arith, r .field-low)
 
 returns : tie.Need-returns
-returns c = narrow-is (c .before .args .negative) (c .before .args .w) _ _ (c .nearest .result) (pattern (c .before) .value) (c .nearest .ensures)
+returns c = narrow-is (c .before .args .negative) (c .before .args .w) _ _ (c .to-nearest .result) (pattern (c .before) .value) (c .to-nearest .ensures)
 
 pub narrow-spec : {M : Type 1} → statement M
-narrow-spec = tie.close (tie.spec float-to-bits-b add-nearest cast-nearest sub-nearest nearest-requires returns)
+narrow-spec = tie.close (tie.spec float-to-bits-b add-to-nearest cast-to-nearest sub-to-nearest to-nearest-requires returns)
