@@ -20,8 +20,8 @@ use Rattle.settext.specs.declared.State.{State}
 use Rattle.settext.specs.declared.Step.{Step}
 use Rattle.settext.specs.declared.Step.the-variants.{Next, Complete, Query, Malformed}
 use Rattle.settext.specs.State.{startState, lineNumber, lineCount, counted, wentOf, badOf, setKind, setM, setR, setN, setDelays, setRate, setAstep, setRstep}
-use Rattle.settext.specs.Lines.{TextLists, gives, asked, when, afterAs, pickAfter, posLine, irLine, delayLine, product, kindOf, keys, keyLine, formLine, kindLine, mLine, rLine, nLine, rateLine, astepLine, rstepLine, delaysLine, valuesStep, queryLine, lineOf}
-use Rattle.text.specs.Machine.{choose, reads}
+use Rattle.settext.specs.Lines.{TextLists, gives, asked, when, afterAs, posLine, irLine, delayLine, product, kindOf, keys, keyLine, formLine, kindLine, mLine, rLine, nLine, rateLine, astepLine, rstepLine, delaysLine, valuesStep, queryLine, lineOf}
+use Rattle.text.specs.Machine.{reads}
 use Rattle.lookup.specs.declared.Lookup.{Lookup}
 use Rattle.loads.specs.declared.Loaded.{Loaded}
 use Rattle.loads.specs.declared.Loaded.the-variants as loaded
@@ -114,7 +114,7 @@ module _ (s : State) (l : List ℕ) where
       e = j - s .m * s .r
 
       by : (a b c f : Bool) → ltb (s .lines) 9 ≡ a → ltb i (s .m) ≡ b → ltb j (s .m * s .r) ≡ c → ltb e (s .delays) ≡ f
-          → Placed (pickAfter a (afterAs (keyLine s l) d) (pickAfter b (posLine s l d i) (pickAfter c (irLine s l d j) (pickAfter f (delayLine s l d e) (afterAs (queryLine s l) d)))) .step)
+          → Placed (cond a (afterAs (keyLine s l) d) (cond b (posLine s l d i) (cond c (irLine s l d j) (cond f (delayLine s l d e) (afterAs (queryLine s l) d)))) .step)
       by true b c f p q r t = key (s .lines) refl (ltb-true (s .lines) 9 p)
       by false true c f p q r t = if-good (valuesFit (bytes "pos=") 3 (3 * i) l (d .positions)) s s (within s h)
       by false false true f p q r t = if-good (valuesFit (bytes "ir=") (s .n) (j * s .n) l (d .responses)) s s (within s h)
@@ -190,10 +190,10 @@ in-order k l h = by-phase (k .phase) l (k .lists) (k .work) h
 
 -- and so do all lines of a text
 pub always : (k : Known) (ls : List (List ℕ)) → InOrder (k .session .phase) → InOrder (reads ended onLine k ls .session .phase)
-unfolding reads choose onLine
+unfolding reads onLine
 always k [] h = h
 always k (l ∷ ls) h = by (ended k) (always (onLine k l) ls (in-order (k .session) l h))
   where
-    by : (b : Bool) → InOrder (reads ended onLine (onLine k l) ls .session .phase) → InOrder (choose b k (reads ended onLine (onLine k l) ls) .session .phase)
+    by : (b : Bool) → InOrder (reads ended onLine (onLine k l) ls .session .phase) → InOrder (cond b k (reads ended onLine (onLine k l) ls) .session .phase)
     by true g = h
     by false g = g

@@ -12,7 +12,7 @@ use Rattle.lists.proofs.Laws.{over-nil, take-over}
 use Rattle.text.specs.declared.Cut.{Cut}
 use Rattle.text.specs.declared.Cut.the-variants.{Line, More}
 use Rattle.text.specs.Lines.{Part, CutWithin, cut, cutPart}
-use Rattle.text.specs.Machine.{At, choose}
+use Rattle.text.specs.Machine.{At}
 use Rattle.settext.specs.declared.State.{State}
 use Rattle.settext.specs.declared.Step.{Step}
 use Rattle.settext.specs.declared.Step.the-variants.{Next, Complete, Query, Malformed}
@@ -33,19 +33,19 @@ use Rattle.queries.specs.Machine.{betweenBytes, advanceAs, lineAdvance, 
 
 -- once over, nothing is read and nothing printed
 pub silent : (room : ℕ) (a : At Session) (s : List ℕ) → isOver (a .known .phase) ≡ true → advanceOf room a s ≡ advanceAs a [] []
-unfolding advanceOf choose
+unfolding advanceOf
 silent room a s e = rw e
 
 pub silent-ears : (room : ℕ) (a : At Session) (s : List ℕ) (k : Ears) → isOver (a .known .phase) ≡ true → k ≡ advanceEars room a s k
-unfolding advanceEars choose
+unfolding advanceEars
 silent-ears room a s k e = rw e
 
 pub goes-by : (room : ℕ) (a : At Session) (s : List ℕ) → isOver (a .known .phase) ≡ false → advanceOf room a s ≡ partAdvance (a .known) (cut (take room) (a .have) s)
-unfolding advanceOf choose
+unfolding advanceOf
 goes-by room a s e = rw e
 
 ears-by : (room : ℕ) (a : At Session) (s : List ℕ) (k : Ears) → isOver (a .known .phase) ≡ false → partEars (a .known) (cut (take room) (a .have) s) k ≡ advanceEars room a s k
-unfolding advanceEars choose
+unfolding advanceEars
 ears-by room a s k e = rw e
 
 none-left : (s : List ℕ) → drop (length s) s ≡ []

@@ -1,12 +1,13 @@
 -- One turn of the program: it reads a chunk up to the end of a line, or to the chunk's end, and says what to print. Definitions only.
 use Prim.Native.Nat.{ℕ, _≤_, _<_}
 use mathlib.Core.Path.{_≡_}
+use mathlib.Core.Bool.{cond}
 use mathlib.Core.List.{List, [], _∷_, _++_}
 use lib.ListN.{length, take, drop}
 use lib.Ieee.{Float}
 use Rattle.lists.specs.Over.{over}
 use Rattle.text.specs.Lines.{Part, line, more, cut}
-use Rattle.text.specs.Machine.{At, choose}
+use Rattle.text.specs.Machine.{At}
 use Rattle.points.specs.declared.Point3.{Point3}
 use Rattle.settext.specs.declared.State.{State}
 use Rattle.settext.specs.declared.Step.{Step}
@@ -47,7 +48,7 @@ partAdvance k (more h) = advanceAs (betweenBytes k h) [] []
 
 -- with a line buffer of so many bytes; once over, nothing is read and nothing printed
 unfoldable pub advanceOf : ℕ → At Session → List ℕ → Advance
-advanceOf room a s = choose (isOver (a .known .phase)) (advanceAs a [] []) (partAdvance (a .known) (cut (take room) (a .have) s))
+advanceOf room a s = cond (isOver (a .known .phase)) (advanceAs a [] []) (partAdvance (a .known) (cut (take room) (a .have) s))
 
 -- what the turn leaves in the two lists of responses
 abbrev pub partEars : Session → Part → Ears → Ears
@@ -55,7 +56,7 @@ partEars k (line l rest) e = lineEars k l e
 partEars k (more h) e = e
 
 unfoldable pub advanceEars : ℕ → At Session → List ℕ → Ears → Ears
-advanceEars room a s e = choose (isOver (a .known .phase)) e (partEars (a .known) (cut (take room) (a .have) s) e)
+advanceEars room a s e = cond (isOver (a .known .phase)) e (partEars (a .known) (cut (take room) (a .have) s) e)
 
 -- the place that a run stands for, by the lent lists
 abbrev pub runPlace : Run → TextLists → Work → List ℕ → At Session

@@ -12,7 +12,7 @@ use lib.Ieee.{Float}
 use borrow.Author.Tests.{ne-eqb, ltb-true, ltb-false}
 use Rattle.text.specs.declared.Num.{Num}
 use Rattle.text.specs.declared.Num.the-variants.{Bad}
-use Rattle.text.specs.Number.{begins, countOf, hexOf, pickNum}
+use Rattle.text.specs.Number.{begins, countOf, hexOf}
 use Rattle.text.specs.Values.{valuesOk, stored}
 use Rattle.text.proofs.Reading.{long-count, other-length}
 use Rattle.text.specs.declared.Place.the-variants.{Nowhere}
@@ -27,7 +27,7 @@ unfolding exactlyOf
 no-word w s h = rw (ne-eqb (length s) (length w) (λ e. omega arith)) (and-false (begins w s))
 
 no-hex : (s : List ℕ) → 39990 < length s → hexOf s ≡ Bad
-unfolding hexOf pickNum
+unfolding hexOf
 no-hex s h = rw (ne-eqb (length s) 8 (λ e. omega arith))
 
 no-values : (s : List ℕ) (n : ℕ) → 39990 < length s → n ≤ 4096 → valuesOk s n ≡ false

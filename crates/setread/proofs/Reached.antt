@@ -21,7 +21,7 @@ use Rattle.settext.specs.declared.State.{State}
 use Rattle.settext.specs.declared.Step.{Step}
 use Rattle.settext.specs.declared.Step.the-variants.{Next, Complete}
 use Rattle.settext.specs.State.{startState, lineNumber, lineCount, counted, wentOf, badOf, setKind, setM, setR, setN, setDelays, setRate, setAstep, setRstep}
-use Rattle.settext.specs.Lines.{TextLists, After, gives, asked, when, afterAs, pickAfter, posLine, irLine, delayLine, product, kindOf, keys, keyLine, formLine, kindLine, mLine, rLine, nLine, rateLine, astepLine, rstepLine, delaysLine, valuesStep, queryLine, lineOf}
+use Rattle.settext.specs.Lines.{TextLists, After, gives, asked, when, afterAs, posLine, irLine, delayLine, product, kindOf, keys, keyLine, formLine, kindLine, mLine, rLine, nLine, rateLine, astepLine, rstepLine, delaysLine, valuesStep, queryLine, lineOf}
 use Rattle.settext.proofs.Laws.{behind-within, product-is}
 use Rattle.setread.specs.Text.{stateOf, readLine}
 use Rattle.setread.specs.Kept.{Reached}
@@ -121,7 +121,7 @@ module _ (s : State) (few : Reached s) (l : List ℕ) where
       e : ℕ
       e = j - s .m * s .r
 
-      by : (a b c f : Bool) → Few (pickAfter a (afterAs (keyLine s l) d) (pickAfter b (posLine s l d i) (pickAfter c (irLine s l d j) (pickAfter f (delayLine s l d e) (afterAs (queryLine s l) d)))) .step)
+      by : (a b c f : Bool) → Few (cond a (afterAs (keyLine s l) d) (cond b (posLine s l d i) (cond c (irLine s l d j) (cond f (delayLine s l d e) (afterAs (queryLine s l) d)))) .step)
       by true b c f = key (s .lines) refl
       by false true c f = if-good (valuesFit (bytes "pos=") 3 (3 * i) l (d .positions)) s s next
       by false false true f = if-good (valuesFit (bytes "ir=") (s .n) (j * s .n) l (d .responses)) s s next

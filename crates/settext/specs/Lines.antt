@@ -121,16 +121,13 @@ delayLine s l d i = record {
 abbrev pub afterAs : Step → TextLists → After
 afterAs t d = record { step = t; lists = d }
 
-abbrev pub pickAfter : Bool → After → After → After
-pickAfter b x y = cond b x y
-
 -- One line: the nine keys, m `pos` lines, m·r `ir` lines of n values, `delays` delay lines, then queries
 unfoldable pub lineOf : State → List ℕ → TextLists → After
 lineOf s l d =
-    pickAfter (ltb (s .lines) keyCount) (afterAs (keyLine s l) d)
-    (pickAfter (ltb (s .lines - keyCount) (s .m)) (posLine s l d (s .lines - keyCount))
-    (pickAfter (ltb (s .lines - keyCount - s .m) (s .m * s .r)) (irLine s l d (s .lines - keyCount - s .m))
-    (pickAfter (ltb (s .lines - keyCount - s .m - s .m * s .r) (s .delays)) (delayLine s l d (s .lines - keyCount - s .m - s .m * s .r))
+    cond (ltb (s .lines) keyCount) (afterAs (keyLine s l) d)
+    (cond (ltb (s .lines - keyCount) (s .m)) (posLine s l d (s .lines - keyCount))
+    (cond (ltb (s .lines - keyCount - s .m) (s .m * s .r)) (irLine s l d (s .lines - keyCount - s .m))
+    (cond (ltb (s .lines - keyCount - s .m - s .m * s .r) (s .delays)) (delayLine s l d (s .lines - keyCount - s .m - s .m * s .r))
     (afterAs (queryLine s l) d))))
 
 -- ---- the end
