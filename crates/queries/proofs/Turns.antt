@@ -14,10 +14,11 @@ use Rattle.text.specs.declared.Cut.the-variants.{Line, More}
 use Rattle.text.specs.Lines.{Part, CutWithin, cut, cutPart}
 use Rattle.text.specs.Machine.{At}
 use Rattle.settext.specs.declared.State.{State}
+use Rattle.settext_laws.specs.Kept.{Few}
 use Rattle.settext.specs.declared.Step.{Step}
 use Rattle.settext.specs.declared.Step.the-variants.{Next, Complete, Query, Malformed}
 use Rattle.settext.specs.Lines.{TextLists, After, lineOf}
-use Rattle.setread.proofs.Reached.{line}
+use Rattle.settext_laws.proofs.Reached.{line}
 use Rattle.points.specs.declared.Point3.{Point3}
 use Rattle.lookup.specs.declared.Lookup.{Lookup}
 use Rattle.loads.specs.declared.Loaded.{Loaded}
@@ -28,7 +29,7 @@ use Rattle.answers.specs.Answers.{setOf}
 use Rattle.queries.specs.declared.Phase.{Phase}
 use Rattle.queries.specs.declared.Phase.the-variants.{Ready, Over}
 use Rattle.queries.specs.Program.{Session, session, Turn, turnAs, stateIn, isOver, phaseAfter, loadTurn, byLoad, blockIn, stepTurn, afterTurn, lineTurn, Ears, earsOf, stepEars, afterEars, lineEars}
-use Rattle.queries.specs.Sound.{Few, SoundPhase}
+use Rattle.queries.specs.Sound.{SoundPhase}
 use Rattle.queries.specs.Machine.{betweenBytes, advanceAs, lineAdvance, partAdvance, advanceOf, partEars, advanceEars, Front, TurnSays}
 
 -- once over, nothing is read and nothing printed

@@ -103,6 +103,11 @@ FinishSays buf t out out′ r = Front (closing (t .phase) (take (t .used) buf)) 
 
 -- ---- chunk after chunk
 
+-- chunks put together
+unfoldable pub joined : List (List ℕ) → List ℕ
+joined [] = []
+joined (c ∷ cs) = c ++ joined cs
+
 -- The turns that a program can make of chunks, with a line buffer of so many bytes: from a place, over these chunks, printing this, to a place
 pub data Makes (room : ℕ) : At Session → List (List ℕ) → List ℕ → At Session → Type 0 where
   -- all is read

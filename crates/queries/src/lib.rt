@@ -14,9 +14,10 @@ ghost use Prim.Native.Nat.{_+_, _*_, _≤_};
 ghost use lib.ListN.{length};
 ghost use Rattle.lists.specs.Over.{over};
 ghost use Rattle.loads.specs.Load.{workOf};
-ghost use Rattle.settext.specs.Lines.{endOf};
-ghost use Rattle.queries.specs.Program.{textLists, stateIn, isOver, phaseAfter, earsOf, endText};
-ghost use Rattle.queries.specs.Sound.{Few, SoundPhase, Sound, Rooms};
+ghost use Rattle.settext.specs.Lines.{textLists, endOf};
+ghost use Rattle.settext_laws.specs.Kept.{Few};
+ghost use Rattle.queries.specs.Program.{stateIn, isOver, phaseAfter, earsOf, endText};
+ghost use Rattle.queries.specs.Sound.{SoundPhase, Sound, Rooms};
 ghost use Rattle.queries.specs.Machine.{startRun, AskSays, LoadSays, StepSays, LineSays, AdvanceSays, FinishSays};
 use loads::Loaded;
 use lookup::Lookup;
@@ -55,11 +56,11 @@ pub struct Told {
     pub count: usize,
 }
 
-pub fn start() -> Run
+pub fn begin() -> Run
     ensures { λ r. ⌜ r ≡ startRun ⌝ }
 {
     Run {
-        phase: Phase::Reading(settext::start()),
+        phase: Phase::Reading(settext::begin()),
         used: 0,
     }
 }
@@ -70,7 +71,7 @@ fn state_in(f: Phase) -> State
     match f {
         Phase::Reading(s) => s,
         Phase::Ready(s, _) => s,
-        Phase::Over => settext::start(),
+        Phase::Over => settext::begin(),
     }
 }
 

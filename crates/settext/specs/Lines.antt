@@ -82,6 +82,9 @@ pub record TextLists : Type 0 where
   pub responses : List Float
   pub delays : List Float
 
+abbrev pub textLists : List Float → List Float → List Float → TextLists
+textLists p r d = record { positions = p; responses = r; delays = d }
+
 pub record After : Type 0 where
   pub step : Step
   pub lists : TextLists
@@ -103,19 +106,19 @@ queryLine s l = asked s (pointBehind (bytes "query=") l)
 abbrev pub posLine : State → List ℕ → TextLists → ℕ → After
 posLine s l d i = record {
   step = valuesStep s (bytes "pos=") l 3 (3 * i) (d .positions);
-  lists = record { positions = valuesList (bytes "pos=") l 3 (3 * i) (d .positions); responses = d .responses; delays = d .delays };
+  lists = textLists (valuesList (bytes "pos=") l 3 (3 * i) (d .positions)) (d .responses) (d .delays);
 }
 
 abbrev pub irLine : State → List ℕ → TextLists → ℕ → After
 irLine s l d i = record {
   step = valuesStep s (bytes "ir=") l (s .n) (i * s .n) (d .responses);
-  lists = record { positions = d .positions; responses = valuesList (bytes "ir=") l (s .n) (i * s .n) (d .responses); delays = d .delays };
+  lists = textLists (d .positions) (valuesList (bytes "ir=") l (s .n) (i * s .n) (d .responses)) (d .delays);
 }
 
 abbrev pub delayLine : State → List ℕ → TextLists → ℕ → After
 delayLine s l d i = record {
   step = valuesStep s (bytes "delay=") l 1 i (d .delays);
-  lists = record { positions = d .positions; responses = d .responses; delays = valuesList (bytes "delay=") l 1 i (d .delays) };
+  lists = textLists (d .positions) (d .responses) (valuesList (bytes "delay=") l 1 i (d .delays));
 }
 
 abbrev pub afterAs : Step → TextLists → After

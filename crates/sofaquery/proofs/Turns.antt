@@ -13,11 +13,10 @@ use borrow.Author.Tests.{le-leb, lt-leb, ltb-true}
 use lib.Seq.{length-take-le}
 use Rattle.io.specs.Counts.{clamped}
 use Rattle.text.specs.Machine.{At}
-use Rattle.setread.specs.Text.{joined}
 use Rattle.queries.specs.declared.Phase.{Phase}
 use Rattle.queries.specs.declared.Run.{Run}
 use Rattle.queries.specs.Program.{Session, isOver, Ears, closing, outputOf}
-use Rattle.queries.specs.Machine.{advanceOf, Makes}
+use Rattle.queries.specs.Machine.{advanceOf, joined, Makes}
 use Rattle.queries.specs.Machine.Makes.{done, next, goes}
 use Rattle.queries.proofs.Whole.{program}
 use Rattle.sofaquery.specs.declared.Flow.{Flow}

@@ -11,10 +11,10 @@ use Rattle.floats.specs.Floats.{zero32}
 use Rattle.lists.specs.Over.{over}
 use Rattle.io.specs.Counts.{clamped}
 use Rattle.text.specs.Machine.{At}
-use Rattle.settext.specs.Lines.{TextLists}
+use Rattle.settext.specs.Lines.{TextLists, textLists}
 use Rattle.loads.specs.Load.{Work, workOf}
 use Rattle.queries.specs.declared.Run.{Run}
-use Rattle.queries.specs.Program.{Session, textLists, isOver, Ears, earsOf, closing, begun, noLists, noWork}
+use Rattle.queries.specs.Program.{Session, isOver, Ears, earsOf, closing, begun, noLists, noWork}
 use Rattle.queries.specs.Sound.{Sound}
 use Rattle.queries.specs.Machine.{Advance, startRun, betweenBytes, runPlace, advanceOf, advanceEars}
 use Rattle.sofaquery.specs.declared.Flow.{Flow}

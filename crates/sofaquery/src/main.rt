@@ -40,7 +40,7 @@ fn begin() -> Went
     ensures { λ r. ⌜ r ≡ startWent ⌝ }
 {
     Went {
-        run: queries::start(),
+        run: queries::begin(),
         at: 0,
         have: 0,
         flow: Flow::More,

@@ -7,7 +7,8 @@ use lib.ListN.{take, drop}
 use lib.Seq.{length-take-le}
 use denote.Ref.{now}
 use Rattle.loads.specs.Load.{workOf}
-use Rattle.queries.specs.Program.{Session, session, textLists, earsOf}
+use Rattle.settext.specs.Lines.{textLists}
+use Rattle.queries.specs.Program.{Session, session, earsOf}
 use Rattle.queries.specs.Sound.{SoundPhase}
 use Rattle.queries.specs.Machine.{betweenBytes, Advance}
 use Rattle.queries.proofs.Keeps.{turn-sound}

@@ -78,8 +78,8 @@ loop-again c =
       omega (arith, k .kept .0),
       ap (λ (t : List ℕ). cut (take n) t rest) (held c) ∙ sym (cut-on (take n) (take (l .loop .u) (l .loop .buf)) (now (a .chunk)) (l .loop .i) (omega arith) (c .before .before .before .before .if1 .left)) ∙ l .loop .inv .4,
       k .ensures .1 ∙ rest-kept (now (a .buf)) (l .loop .buf) (l .loop .u) b (omega arith) (l .loop .inv .3) (l .loop .inv .5)
-      ∙ ap (λ (t : List ℕ). over (take (min (l .loop .u + 1) (length (l .loop .buf))) t) (now (a .buf))) (sym (k .ensures .1))
-      ∙ ap (λ (m : ℕ). over (take m (k .last .0)) (now (a .buf))) (sym (k .ensures .0)),
+          ∙ ap (λ (t : List ℕ). over (take (min (l .loop .u + 1) (length (l .loop .buf))) t) (now (a .buf))) (sym (k .ensures .1))
+          ∙ ap (λ (m : ℕ). over (take m (k .last .0)) (now (a .buf))) (sym (k .ensures .0)),
     )
 
 same-length-2 : tie.Need-same-length-2 Inv-loop μ-loop
