@@ -1,5 +1,5 @@
 -- Before the last line of the set no line is a query, and after it no line is anything else but malformed: so each query meets a loaded set, and the
--- phase `Ready` is left only at the end (`in-order`, `no-query-yet`, `only-queries`). Assumes nothing.
+-- phase `Ready` is left only at the end (`in-order`, `no-query-yet`, `only-queries`; of every text, from the beginning: `text-in-order`). Assumes nothing.
 use Prim.Native.Nat.{ℕ, zero, suc, _-_, _*_, _≤_, _<_}
 use mathlib.Core.Path.{_≡_, refl}
 use mathlib.Core.Bool.{Bool, true, false, cond}
@@ -29,7 +29,7 @@ use Rattle.loads.specs.Load.{Work}
 use Rattle.answers.specs.Answers.{setOf}
 use Rattle.queries.specs.declared.Phase.{Phase}
 use Rattle.queries.specs.declared.Phase.the-variants.{Reading, Ready, Over}
-use Rattle.queries.specs.Program.{Session, Known, stateIn, loadTurn, stepTurn, afterTurn, lineTurn, ended, onLine, begun}
+use Rattle.queries.specs.Program.{Session, Known, knownAs, stateIn, loadTurn, stepTurn, afterTurn, lineTurn, ended, onLine, begun}
 
 -- ---- a line of the set
 
@@ -143,10 +143,6 @@ InOrder (Reading s) = s .lines < lineCount s
 InOrder (Ready s look) = (lineCount s ≤ s .lines) × (s .lines ≤ 18446744073709551615)
 InOrder Over = T true
 
-pub begins-in-order : (d : TextLists) (w : Work) → InOrder (begun d w .phase)
-unfolding lineCount
-begins-in-order d w = omega arith
-
 -- one line more, after the set
 one-more : (s : State) → lineCount s ≤ s .lines → s .lines ≤ 18446744073709551615 → lineCount s ≤ lineNumber s
 unfolding lineNumber
@@ -189,7 +185,7 @@ unfolding lineTurn
 in-order k l h = by-phase (k .phase) l (k .lists) (k .work) h
 
 -- and so do all lines of a text
-pub always : (k : Known) (ls : List (List ℕ)) → InOrder (k .session .phase) → InOrder (reads ended onLine k ls .session .phase)
+always : (k : Known) (ls : List (List ℕ)) → InOrder (k .session .phase) → InOrder (reads ended onLine k ls .session .phase)
 unfolding reads onLine
 always k [] h = h
 always k (l ∷ ls) h = by (ended k) (always (onLine k l) ls (in-order (k .session) l h))
@@ -197,3 +193,7 @@ always k (l ∷ ls) h = by (ended k) (always (onLine k l) ls (in-order (k .sessi
     by : (b : Bool) → InOrder (reads ended onLine (onLine k l) ls .session .phase) → InOrder (cond b k (reads ended onLine (onLine k l) ls) .session .phase)
     by true g = h
     by false g = g
+
+-- from the beginning on
+pub text-in-order : (d : TextLists) (w : Work) (ls : List (List ℕ)) → InOrder (reads ended onLine (knownAs (begun d w) []) ls .session .phase)
+text-in-order d w ls = always (knownAs (begun d w) []) ls starts

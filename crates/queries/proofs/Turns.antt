@@ -11,7 +11,7 @@ use Rattle.lists.specs.Over.{over}
 use Rattle.lists.proofs.Laws.{over-nil, take-over}
 use Rattle.text.specs.declared.Cut.{Cut}
 use Rattle.text.specs.declared.Cut.the-variants.{Line, More}
-use Rattle.text.specs.Lines.{Part, CutWithin, cut, cutPart}
+use Rattle.text.specs.Lines.{Part, CutWithin, partBytes, cut, cutPart}
 use Rattle.text.specs.Machine.{At}
 use Rattle.settext.specs.declared.State.{State}
 use Rattle.settext_laws.specs.Kept.{Few}
@@ -30,7 +30,7 @@ use Rattle.queries.specs.declared.Phase.{Phase}
 use Rattle.queries.specs.declared.Phase.the-variants.{Ready, Over}
 use Rattle.queries.specs.Program.{Session, session, Turn, turnAs, stateIn, isOver, phaseAfter, loadTurn, byLoad, blockIn, stepTurn, afterTurn, lineTurn, Ears, earsOf, stepEars, afterEars, lineEars}
 use Rattle.queries.specs.Sound.{SoundPhase}
-use Rattle.queries.specs.Machine.{betweenBytes, advanceAs, lineAdvance, partAdvance, advanceOf, partEars, advanceEars, Front, TurnSays}
+use Rattle.queries.specs.Machine.{betweenBytes, advanceAs, lineAdvance, partAdvance, advanceOf, partEars, advanceEars, advanceBuf, Front, TurnSays}
 
 -- once over, nothing is read and nothing printed
 pub silent : (room : ℕ) (a : At Session) (s : List ℕ) → isOver (a .known .phase) ≡ true → advanceOf room a s ≡ advanceAs a [] []
@@ -48,6 +48,14 @@ goes-by room a s e = rw e
 ears-by : (room : ℕ) (a : At Session) (s : List ℕ) (k : Ears) → isOver (a .known .phase) ≡ false → partEars (a .known) (cut (take room) (a .have) s) k ≡ advanceEars room a s k
 unfolding advanceEars
 ears-by room a s k e = rw e
+
+pub silent-buf : (room : ℕ) (a : At Session) (s buf : List ℕ) → isOver (a .known .phase) ≡ true → buf ≡ advanceBuf room a s buf
+unfolding advanceBuf
+silent-buf room a s buf e = rw e
+
+pub buf-by : (room : ℕ) (a : At Session) (s buf buf′ : List ℕ) → isOver (a .known .phase) ≡ false → buf′ ≡ over (partBytes (cut (take room) (a .have) s)) buf → buf′ ≡ advanceBuf room a s buf
+unfolding advanceBuf
+buf-by room a s buf buf′ e f = rw e f
 
 none-left : (s : List ℕ) → drop (length s) s ≡ []
 none-left s = let h : length s ≤ length s = omega arith in drop-of-length-le s h

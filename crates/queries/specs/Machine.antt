@@ -6,7 +6,7 @@ use mathlib.Core.List.{List, [], _∷_, _++_}
 use lib.ListN.{length, take, drop}
 use lib.Ieee.{Float}
 use Rattle.lists.specs.Over.{over}
-use Rattle.text.specs.Lines.{Part, line, more, cut}
+use Rattle.text.specs.Lines.{Part, line, more, partBytes, cut}
 use Rattle.text.specs.Machine.{At}
 use Rattle.points.specs.declared.Point3.{Point3}
 use Rattle.settext.specs.declared.State.{State}
@@ -58,6 +58,10 @@ partEars k (more h) e = e
 unfoldable pub advanceEars : ℕ → At Session → List ℕ → Ears → Ears
 advanceEars room a s e = cond (isOver (a .known .phase)) e (partEars (a .known) (cut (take room) (a .have) s) e)
 
+-- and in the line buffer: the bytes of its line at the front, and the rest of it stays
+unfoldable pub advanceBuf : ℕ → At Session → List ℕ → List ℕ → List ℕ
+advanceBuf room a s buf = cond (isOver (a .known .phase)) buf (over (partBytes (cut (take room) (a .have) s)) buf)
+
 -- the place that a run stands for, by the lent lists
 abbrev pub runPlace : Run → TextLists → Work → List ℕ → At Session
 runPlace t d w buf = betweenBytes (session (t .phase) d w) (take (t .used) buf)
@@ -94,6 +98,7 @@ pub record AdvanceSays (chunk : List ℕ) (from : ℕ) (buf buf′ : List ℕ) (
   pub left : drop (r .next) chunk ≡ advanceOf 40000 (runPlace t d w buf) (drop from chunk) .left
   pub printed : Front (advanceOf 40000 (runPlace t d w buf) (drop from chunk) .printed) out out′ (r .count)
   pub ears : e′ ≡ advanceEars 40000 (runPlace t d w buf) (drop from chunk) e
+  pub buffer : buf′ ≡ advanceBuf 40000 (runPlace t d w buf) (drop from chunk) buf
   pub sound : Sound (r .run)
   pub next : r .next ≤ length chunk
   pub moves : from < length chunk → from < r .next
