@@ -1,26 +1,20 @@
 -- A set that was loaded has a measurement and two ears; so its n is at most 2048, where m·r·n is at most 4096.
 -- Assumes nothing.
 use Prim.Native.Nat.{ℕ, _*_, _≤_}
-use mathlib.Core.Path.{_≡_, refl}
+use mathlib.Core.Path.{_≡_}
 use mathlib.Core.List.{List}
 use native.Mathlib.Nat.{mul-le-mul}
 use native.Mathlib.Omega.{arith}
 use lib.ListN.{take}
 use lib.Ieee.{Float}
-use Rattle.limits.specs.declared.Verdict.{Verdict}
-use Rattle.limits.specs.declared.Verdict.the-variants as verdict
 use Rattle.limits.specs.Refusals.{verdictOf, loadLines}
 use Rattle.limits.proofs.Passed.{Sized, load-passed}
 use Rattle.lookup.specs.declared.Lookup.{Lookup}
 use Rattle.loads.specs.declared.Loaded.the-variants.{Ready}
-use Rattle.loads.specs.Load.{Work, Load, loadBy, loadOf, lengthsIn}
+use Rattle.loads.specs.Load.{Work, loadOf, lengthsIn}
+use Rattle.loads.proofs.Ways.{fine-by}
 use Rattle.settext.specs.declared.State.{State}
 use Rattle.answers.specs.Answers.{sizesIn, setOf}
-
-fine-by : (v : Verdict) (done : Load) (d : Work) (look : Lookup) → loadBy v done d .answer ≡ Ready look → v ≡ verdict.Fine
-unfolding loadBy
-fine-by verdict.Fine done d look e = refl
-fine-by (verdict.Refused n p) done d look e = let z : _≡_ {A = ℕ} 0 1 = cc in absurd (omega arith)
 
 -- the sizes of a set that was loaded are allowed
 pub ready-sized : (s : State) (positions : List Float) (responses : ℕ) (d : Work) (look : Lookup) → setOf s positions responses d .answer ≡ Ready look → Sized (sizesIn s)

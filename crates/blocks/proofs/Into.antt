@@ -6,12 +6,9 @@ use native.Mathlib.Numerals.{add-one}
 use native.Mathlib.Omega.{arith}
 use lib.ListN.{length, take, drop, set, getD, length-append, length-drop, take-append-drop}
 use lib.Seq.{take-at, drop-at, drop-drop, length-take-le, set-at, drop-cons, drop-length, take-all, take-suc}
-use Rattle.lists.specs.Over.{over}
-use Rattle.blocks.specs.Put.{into, FitsAt, Wrote}
-
-pub into-nil : (at : ℕ) (d : List ℕ) → into at [] d ≡ d
-unfolding into over
-into-nil at d = take-append-drop at d
+use Rattle.lists.specs.Over.{over, into}
+use Rattle.lists.proofs.Laws.{into-nil}
+use Rattle.blocks.specs.Put.{FitsAt, Wrote}
 
 -- at the front it is `over`
 pub into-front : (xs d : List ℕ) → into 0 xs d ≡ over xs d

@@ -109,7 +109,7 @@ fn values_line(key: &[u8], xs: &[f32], out: &mut [u8], at: usize) -> usize
 
 // ---- blocks
 
-fn head(answer: &[u8], nearest: usize, points: usize, out: &mut [u8]) -> usize
+fn head_lines(answer: &[u8], nearest: usize, points: usize, out: &mut [u8]) -> usize
     requires { ⌜ FitsAt 0 (headText (now answer) nearest points) (now out) ⌝ }
     ensures { λ r. ⌜ Wrote 0 (headText (now (answer .entry)) nearest points) (now (out .entry)) r (now (out .exit)) ⌝ }
 {
@@ -139,7 +139,7 @@ fn filter_block(
     requires { ⌜ FitsAt 0 (filterText (now answer) nearest points ldelay rdelay (now left) (now right)) (now out) ⌝ }
     ensures { λ r. ⌜ Wrote 0 (filterText (now (answer .entry)) nearest points ldelay rdelay (now (left .entry)) (now (right .entry))) (now (out .entry)) r (now (out .exit)) ⌝ }
 {
-    let a = head(answer, nearest, points, out);
+    let a = head_lines(answer, nearest, points, out);
     let b = values_line(b"left=", left, out, a);
     let c = values_line(b"right=", right, out, b);
     both_delays(ldelay, rdelay, out, c)

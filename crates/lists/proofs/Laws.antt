@@ -5,15 +5,19 @@ use Prim.Native.Nat.{ℕ, zero, suc, _+_, _≤_, _<_}
 use native.Mathlib.Nat.{le-of-lt}
 use native.Mathlib.Numerals.{add-one}
 use native.Mathlib.Omega.{arith}
-use lib.ListN.{length, take, drop, getD, set, replicate, length-append, length-drop, length-replicate}
+use lib.ListN.{length, take, drop, getD, set, replicate, length-append, length-drop, length-replicate, take-append-drop}
 use lib.Seq.{take-suc, drop-cons, take-at, drop-at, set-at, length-take-le, append-snoc}
 use Rattle.lists.specs.Each.{Each}
-use Rattle.lists.specs.Over.{over, upto}
+use Rattle.lists.specs.Over.{over, into, upto}
 
 module _ {A : Type 0} where
   pub over-nil : (d : List A) → over [] d ≡ d
   unfolding over
   over-nil d = refl
+
+  pub into-nil : (at : ℕ) (d : List A) → into at [] d ≡ d
+  unfolding into over
+  into-nil at d = take-append-drop at d
 
   pub length-over : (xs d : List A) → length xs ≤ length d → length (over xs d) ≡ length d
   unfolding over
@@ -26,6 +30,11 @@ module _ {A : Type 0} where
   pub drop-over : (xs d : List A) → drop (length xs) (over xs d) ≡ drop (length xs) d
   unfolding over
   drop-over xs d = drop-at xs (drop (length xs) d) (length xs) refl
+
+  -- a list's own front
+  pub over-own : (n : ℕ) (d : List A) → n ≤ length d → d ≡ over (take n d) d
+  unfolding over
+  over-own n d h = sym (take-append-drop n d) ∙ ap (λ (k : ℕ). take n d ++ drop k d) (sym (length-take-le n d h))
 
   -- one store past the replaced part makes it one longer
   pub over-more : (xs d : List A) (a : A) → length xs < length d → set (over xs d) (length xs) a ≡ over (xs ++ (a ∷ [])) d
@@ -50,7 +59,7 @@ module _ {A : Type 0} where
   replicate-snoc zero v = refl
   replicate-snoc (suc n) v = ap (λ (l : List A). v ∷ l) (replicate-snoc n v)
 
-  -- a turn of a fill
+  -- a turn of a loop that writes one value
   pub fill-more : (n : ℕ) (v : A) (d : List A) → n < length d → set (over (replicate n v) d) n v ≡ over (replicate (n + 1) v) d
   fill-more n v d h =
       over-at (replicate n v) d n v (length-replicate n v) h

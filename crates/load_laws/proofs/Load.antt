@@ -11,7 +11,6 @@ use Rattle.lists.proofs.Laws.{take-over, drop-over, length-upto}
 use Rattle.points.specs.declared.Point3.{Point3}
 use Rattle.points.specs.Points.{Finite}
 use Rattle.limits.specs.declared.Verdict.{Verdict}
-use Rattle.limits.specs.declared.Verdict.the-variants as verdict
 use Rattle.limits.specs.declared.Verdict.the-variants.{Fine}
 use Rattle.lookup.specs.declared.Lookup.{Lookup}
 use Rattle.lookup.specs.declared.Located.{Located}
@@ -28,9 +27,9 @@ use Rattle.stored.specs.declared.MaxDelay.the-variants.{Delay}
 use Rattle.stored.specs.Longest.{greatest, longestOf, maxBy, maxDelayOf}
 use Rattle.reader.specs.Queries.{allowed, nearestOr, filterSays, plainSays, numberSays}
 use Rattle.stored.specs.Numbers.{partBy, partOf, tapsIn, responseOf, aroundBy, aroundOf, entriesOf}
-use Rattle.loads.specs.declared.Loaded.the-variants.{Ready, Refused}
-use Rattle.loads.specs.Load.{Work, Load, cartesianFrom, indexed, loadBy, loadOf}
-use Rattle.loads.proofs.Ways.{as-long}
+use Rattle.loads.specs.declared.Loaded.the-variants.{Ready}
+use Rattle.loads.specs.Load.{Work, Load, cartesianFrom, indexed, loadOf}
+use Rattle.loads.proofs.Ways.{as-long, fine-by}
 use Rattle.source.specs.Rust.{Some}
 use Rattle.source.specs.Lookup.{Hrtf}
 use Rattle.source.specs.Hrtf.{«convert_to_cartesian»}
@@ -222,14 +221,6 @@ module _ (g : Given) (fine : judged g ≡ Fine) where
   }
 
 -- ---- the two premises
-
-never : {n p : ℕ} {look : Lookup} → Refused n p ≡ Ready look → ⊥
-never e = let z : _≡_ {A = ℕ} 0 1 = cc in omega arith
-
-fine-by : (v : Verdict) (l : Load) (d : Work) (look : Lookup) → loadBy v l d .answer ≡ Ready look → v ≡ Fine
-unfolding loadBy
-fine-by verdict.Fine l d look e = refl
-fine-by (verdict.Refused n p) l d look e = absurd (never e)
 
 -- where `load` answers Ready no line of the table is met
 pub ready-fine : (g : Given) (look : Lookup) → loaded g .answer ≡ Ready look → judged g ≡ Fine

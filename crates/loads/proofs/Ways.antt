@@ -118,3 +118,9 @@ module _ (kind : ℕ) (s : Sizes) (xs : List Float) (responses : ℕ) (angle rad
     unfolding loadOf loadBy
     ready x c ec ex =
         ex ∙ ap (λ (y : List Float). indexed (s .m) angle radius (workOf (d .left) (d .right) (d .neighbours) y)) ec ∙ sym (ap (λ (u : Verdict). loadBy u done d) (sym ew ∙ fine))
+
+-- where a load answers Ready, no line of its table is met
+pub fine-by : (v : Verdict) (done : Load) (d : Work) (look : Lookup) → loadBy v done d .answer ≡ Ready look → v ≡ verdict.Fine
+unfolding loadBy
+fine-by verdict.Fine done d look e = refl
+fine-by (verdict.Refused n p) done d look e = let z : _≡_ {A = ℕ} 0 1 = cc in absurd (omega arith)

@@ -42,7 +42,7 @@ pub fn silence(out: &mut [f32], k: usize)
     ensures { λ _. ⌜ now (out .exit) ≡ tailed k (now (out .entry)) ⌝ }
 {
     let rest = out.len() - k;
-    lists::clear(&mut out[k..], rest);
+    lists::zeros(&mut out[k..], rest);
 }
 
 fn mix1(out: &mut [f32], src: &[f32], a: usize, w: f32, n: usize)

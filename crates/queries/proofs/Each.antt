@@ -4,7 +4,7 @@ use Prim.Native.Nat.{ℕ}
 use mathlib.Core.Path.{_≡_, refl, sym, ap, _∙_}
 use mathlib.Core.List.{List, [], _∷_, _++_, append-assoc, append-nil}
 use Rattle.points.specs.declared.Point3.{Point3}
-use Rattle.text.specs.Machine.{choose, reads}
+use Rattle.text.specs.Machine.{reads}
 use Rattle.text.specs.declared.Place.{Place}
 use Rattle.text.specs.declared.Place.the-variants as place
 use Rattle.text.specs.Words.{bytes}
@@ -60,7 +60,7 @@ module _ (look : Lookup) (d : TextLists) (w : Work) where
   -- One block for each query, in their order
   pub each-block : {ls : List (List ℕ)} {qs : List Point3} (s : State) (p : List ℕ) → InOrder (Ready s look) → Ask ls qs
       → reads ended onLine (knownAs (session (Ready s look) d w) p) ls .printed ≡ p ++ blocks s qs
-  unfolding reads choose onLine blocks
+  unfolding reads onLine blocks
   each-block s p h none = sym (append-nil p)
   each-block s p h (one {l} {q} {ls} {qs} e m) =
       let t = a-query s h l q e in

@@ -11,7 +11,7 @@ use lib.Ieee.{Float}
 use borrow.Author.Tests.{eq-eqb, le-leb}
 use Rattle.limits.specs.Allowed.{treeFits, responsesFit, neighboursFit, plainFits, blendFits, loadFits}
 use Rattle.settext.specs.declared.State.{State}
-use Rattle.setread.specs.Kept.{Reached}
+use Rattle.settext_laws.specs.Kept.{Reached}
 use Rattle.loads.specs.Load.{Work, lengthsIn}
 use Rattle.answers.specs.Answers.{sizesIn}
 

@@ -7,8 +7,8 @@ use Rattle.settext.specs.declared.State.{State}
 use Rattle.settext.specs.declared.Step.{Step}
 use Rattle.settext.specs.declared.Step.the-variants.{Next, Complete, Query, Malformed}
 use Rattle.settext.specs.Lines.{TextLists, lineOf}
-use Rattle.setread.specs.Kept.{Reached}
-use Rattle.setread.proofs.Reached.{begins-so, line}
+use Rattle.settext_laws.specs.Kept.{Reached, Few}
+use Rattle.settext_laws.proofs.Reached.{begins-so, line}
 use Rattle.loads.specs.declared.Loaded.{Loaded}
 use Rattle.loads.specs.declared.Loaded.the-variants as loaded
 use Rattle.loads.specs.Load.{Work}
@@ -16,7 +16,7 @@ use Rattle.answers.specs.Answers.{setOf}
 use Rattle.queries.specs.declared.Phase.{Phase}
 use Rattle.queries.specs.declared.Phase.the-variants.{Reading, Ready, Over}
 use Rattle.queries.specs.Program.{Session, stateIn, phaseAfter, loadTurn, stepTurn, lineTurn}
-use Rattle.queries.specs.Sound.{Few, SoundPhase, Sound}
+use Rattle.queries.specs.Sound.{SoundPhase, Sound}
 use Rattle.queries.specs.Machine.{startRun}
 
 pub start-sound : Sound startRun

@@ -1,5 +1,5 @@
 -- Before the last line of the set no line is a query, and after it no line is anything else but malformed: so each query meets a loaded set, and the
--- phase `Ready` is left only at the end (`in-order`, `no-query-yet`, `only-queries`). Assumes nothing.
+-- phase `Ready` is left only at the end (`in-order`, `no-query-yet`, `only-queries`; of every text, from the beginning: `text-in-order`). Assumes nothing.
 use Prim.Native.Nat.{ℕ, zero, suc, _-_, _*_, _≤_, _<_}
 use mathlib.Core.Path.{_≡_, refl}
 use mathlib.Core.Bool.{Bool, true, false, cond}
@@ -20,8 +20,8 @@ use Rattle.settext.specs.declared.State.{State}
 use Rattle.settext.specs.declared.Step.{Step}
 use Rattle.settext.specs.declared.Step.the-variants.{Next, Complete, Query, Malformed}
 use Rattle.settext.specs.State.{startState, lineNumber, lineCount, counted, wentOf, badOf, setKind, setM, setR, setN, setDelays, setRate, setAstep, setRstep}
-use Rattle.settext.specs.Lines.{TextLists, gives, asked, when, afterAs, pickAfter, posLine, irLine, delayLine, product, kindOf, keys, keyLine, formLine, kindLine, mLine, rLine, nLine, rateLine, astepLine, rstepLine, delaysLine, valuesStep, queryLine, lineOf}
-use Rattle.text.specs.Machine.{choose, reads}
+use Rattle.settext.specs.Lines.{TextLists, gives, asked, when, afterAs, posLine, irLine, delayLine, product, kindOf, keys, keyLine, formLine, kindLine, mLine, rLine, nLine, rateLine, astepLine, rstepLine, delaysLine, valuesStep, queryLine, lineOf}
+use Rattle.text.specs.Machine.{reads}
 use Rattle.lookup.specs.declared.Lookup.{Lookup}
 use Rattle.loads.specs.declared.Loaded.{Loaded}
 use Rattle.loads.specs.declared.Loaded.the-variants as loaded
@@ -29,7 +29,7 @@ use Rattle.loads.specs.Load.{Work}
 use Rattle.answers.specs.Answers.{setOf}
 use Rattle.queries.specs.declared.Phase.{Phase}
 use Rattle.queries.specs.declared.Phase.the-variants.{Reading, Ready, Over}
-use Rattle.queries.specs.Program.{Session, Known, stateIn, loadTurn, stepTurn, afterTurn, lineTurn, ended, onLine, begun}
+use Rattle.queries.specs.Program.{Session, Known, knownAs, stateIn, loadTurn, stepTurn, afterTurn, lineTurn, ended, onLine, begun}
 
 -- ---- a line of the set
 
@@ -114,7 +114,7 @@ module _ (s : State) (l : List ℕ) where
       e = j - s .m * s .r
 
       by : (a b c f : Bool) → ltb (s .lines) 9 ≡ a → ltb i (s .m) ≡ b → ltb j (s .m * s .r) ≡ c → ltb e (s .delays) ≡ f
-          → Placed (pickAfter a (afterAs (keyLine s l) d) (pickAfter b (posLine s l d i) (pickAfter c (irLine s l d j) (pickAfter f (delayLine s l d e) (afterAs (queryLine s l) d)))) .step)
+          → Placed (cond a (afterAs (keyLine s l) d) (cond b (posLine s l d i) (cond c (irLine s l d j) (cond f (delayLine s l d e) (afterAs (queryLine s l) d)))) .step)
       by true b c f p q r t = key (s .lines) refl (ltb-true (s .lines) 9 p)
       by false true c f p q r t = if-good (valuesFit (bytes "pos=") 3 (3 * i) l (d .positions)) s s (within s h)
       by false false true f p q r t = if-good (valuesFit (bytes "ir=") (s .n) (j * s .n) l (d .responses)) s s (within s h)
@@ -142,10 +142,6 @@ abbrev pub InOrder : Phase → Type 0
 InOrder (Reading s) = s .lines < lineCount s
 InOrder (Ready s look) = (lineCount s ≤ s .lines) × (s .lines ≤ 18446744073709551615)
 InOrder Over = T true
-
-pub begins-in-order : (d : TextLists) (w : Work) → InOrder (begun d w .phase)
-unfolding lineCount
-begins-in-order d w = omega arith
 
 -- one line more, after the set
 one-more : (s : State) → lineCount s ≤ s .lines → s .lines ≤ 18446744073709551615 → lineCount s ≤ lineNumber s
@@ -189,11 +185,15 @@ unfolding lineTurn
 in-order k l h = by-phase (k .phase) l (k .lists) (k .work) h
 
 -- and so do all lines of a text
-pub always : (k : Known) (ls : List (List ℕ)) → InOrder (k .session .phase) → InOrder (reads ended onLine k ls .session .phase)
-unfolding reads choose onLine
+always : (k : Known) (ls : List (List ℕ)) → InOrder (k .session .phase) → InOrder (reads ended onLine k ls .session .phase)
+unfolding reads onLine
 always k [] h = h
 always k (l ∷ ls) h = by (ended k) (always (onLine k l) ls (in-order (k .session) l h))
   where
-    by : (b : Bool) → InOrder (reads ended onLine (onLine k l) ls .session .phase) → InOrder (choose b k (reads ended onLine (onLine k l) ls) .session .phase)
+    by : (b : Bool) → InOrder (reads ended onLine (onLine k l) ls .session .phase) → InOrder (cond b k (reads ended onLine (onLine k l) ls) .session .phase)
     by true g = h
     by false g = g
+
+-- from the beginning on
+pub text-in-order : (d : TextLists) (w : Work) (ls : List (List ℕ)) → InOrder (reads ended onLine (knownAs (begun d w) []) ls .session .phase)
+text-in-order d w ls = always (knownAs (begun d w) []) ls starts

@@ -3,8 +3,8 @@ use Prim.Native.Nat.{ℕ}
 use Prim.Native.String.{String}
 use mathlib.Core.Path.{_≡_, refl}
 use mathlib.Core.List.{List, [], _∷_, _++_}
-use Rattle.text.specs.Machine.{choose, splitFrom, reads}
-use Rattle.text.specs.Number.{begins, countOf, hexOf, numFrom, atMost, digitOf, pickNum}
+use Rattle.text.specs.Machine.{splitFrom, reads}
+use Rattle.text.specs.Number.{begins, countOf, hexOf, numFrom, atMost, digitOf}
 use Rattle.text.specs.Print.{decimalText, decimalIn}
 use Rattle.text.specs.Words.{bytes}
 use Rattle.text.specs.Keys.{exactlyOf, numBehind}
@@ -30,21 +30,21 @@ empty = refl
 
 -- a line that is not ended is malformed
 pub unfinished : outputOf (bytes "form=1") ≡ lines ("form error at line 1" ∷ [])
-unfolding outputOf outputFrom splitFrom choose reads endOf lineNumber lineCount formError countLine decimalText decimalIn bytes
+unfolding outputOf outputFrom splitFrom reads endOf lineNumber lineCount formError countLine decimalText decimalIn bytes
 unfinished = refl
 
 -- a carriage return is no part of a line's end
 pub carriage-return : outputOf (bytes "form=1" ++ (13 ∷ 10 ∷ [])) ≡ lines ("form error at line 1" ∷ [])
-unfolding outputOf outputFrom splitFrom choose reads onLine lineTurn lineOf keyLine formLine exactlyOf begins badOf endOf lineNumber lineCount formError countLine decimalText decimalIn bytes
+unfolding outputOf outputFrom splitFrom reads onLine lineTurn lineOf keyLine formLine exactlyOf begins badOf endOf lineNumber lineCount formError countLine decimalText decimalIn bytes
 carriage-return = refl
 
 -- the second line is missing
 pub cut-short : outputOf (lines ("form=1" ∷ [])) ≡ lines ("form error at line 2" ∷ [])
-unfolding outputOf outputFrom splitFrom choose reads onLine lineTurn lineOf keyLine formLine exactlyOf begins wentOf endOf lineNumber lineCount formError countLine decimalText decimalIn bytes
+unfolding outputOf outputFrom splitFrom reads onLine lineTurn lineOf keyLine formLine exactlyOf begins wentOf endOf lineNumber lineCount formError countLine decimalText decimalIn bytes
 cut-short = refl
 
 -- no measurement: the set is well formed, its load is refused, and what comes after is not read
 pub no-measurement : outputOf (lines ("form=1" ∷ "kind=cartesian" ∷ "m=0" ∷ "r=2" ∷ "n=1" ∷ "rate=473b8000" ∷ "astep=3f000000" ∷ "rstep=3c23d70a" ∷ "delays=0" ∷ "anything" ∷ []))
     ≡ lines ("answer=refused" ∷ "reason=2" ∷ "place=0" ∷ [])
-unfolding outputOf outputFrom splitFrom choose reads onLine lineTurn lineOf keyLine formLine kindLine kindOf mLine rLine nLine product rateLine astepLine rstepLine delaysLine exactlyOf begins numBehind countOf hexOf numFrom atMost digitOf pickNum wentOf badOf endOf lineNumber lineCount setOf loadOf loadBy verdictOf pickVerdict kindOk sizesOk wordLine countLine refusedText decimalText decimalIn bytes
+unfolding outputOf outputFrom splitFrom reads onLine lineTurn lineOf keyLine formLine kindLine kindOf mLine rLine nLine product rateLine astepLine rstepLine delaysLine exactlyOf begins numBehind countOf hexOf numFrom atMost digitOf wentOf badOf endOf lineNumber lineCount setOf loadOf loadBy verdictOf pickVerdict kindOk sizesOk wordLine countLine refusedText decimalText decimalIn bytes
 no-measurement = refl

@@ -2,12 +2,12 @@
 -- text (`turns`). Assumes nothing.
 use Prim.Native.Nat.{ℕ, zero, suc, _≤_}
 use mathlib.Core.Path.{_≡_, refl}
-use mathlib.Core.Bool.{Bool, true, false}
+use mathlib.Core.Bool.{Bool, true, false, cond}
 use mathlib.Core.List.{List, [], _∷_, _++_}
 use native.Mathlib.Omega.{arith}
 use lib.Dec.{eqb}
 use lib.ListN.{length, take}
-use Rattle.text.specs.Lines.{line, pickPart, cut}
+use Rattle.text.specs.Lines.{line, cut}
 use Rattle.text.specs.Machine.{At}
 use Rattle.queries.specs.Program.{Session, isOver}
 use Rattle.queries.specs.Machine.{partAdvance, advanceOf, Makes, done, next, goes}
@@ -15,21 +15,21 @@ use Rattle.queries.proofs.Turns.{silent, goes-by}
 
 module _ (k : Session) (keep : List ℕ → List ℕ) where
   not-more : (have s : List ℕ) → length (partAdvance k (cut keep have s) .left) ≤ length s
-  unfolding cut pickPart
+  unfolding cut
   not-more have [] = omega arith
   not-more have (b ∷ s) = by (eqb b 10) (not-more (keep (have ++ (b ∷ []))) s)
     where
       by : (t : Bool) → length (partAdvance k (cut keep (keep (have ++ (b ∷ []))) s) .left) ≤ length s
-          → length (partAdvance k (pickPart t (line have s) (cut keep (keep (have ++ (b ∷ []))) s)) .left) ≤ suc (length s)
+          → length (partAdvance k (cond t (line have s) (cut keep (keep (have ++ (b ∷ []))) s)) .left) ≤ suc (length s)
       by true h = omega arith
       by false h = omega arith
 
   fewer : (have : List ℕ) (b : ℕ) (s : List ℕ) → length (partAdvance k (cut keep have (b ∷ s)) .left) ≤ length s
-  unfolding cut pickPart
+  unfolding cut
   fewer have b s = by (eqb b 10) (not-more (keep (have ++ (b ∷ []))) s)
     where
       by : (t : Bool) → length (partAdvance k (cut keep (keep (have ++ (b ∷ []))) s) .left) ≤ length s
-          → length (partAdvance k (pickPart t (line have s) (cut keep (keep (have ++ (b ∷ []))) s)) .left) ≤ length s
+          → length (partAdvance k (cond t (line have s) (cut keep (keep (have ++ (b ∷ []))) s)) .left) ≤ length s
       by true h = omega arith
       by false h = h
 

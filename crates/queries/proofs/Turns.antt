@@ -11,13 +11,14 @@ use Rattle.lists.specs.Over.{over}
 use Rattle.lists.proofs.Laws.{over-nil, take-over}
 use Rattle.text.specs.declared.Cut.{Cut}
 use Rattle.text.specs.declared.Cut.the-variants.{Line, More}
-use Rattle.text.specs.Lines.{Part, CutWithin, cut, cutPart}
-use Rattle.text.specs.Machine.{At, choose}
+use Rattle.text.specs.Lines.{Part, CutWithin, partBytes, cut, cutPart}
+use Rattle.text.specs.Machine.{At}
 use Rattle.settext.specs.declared.State.{State}
+use Rattle.settext_laws.specs.Kept.{Few}
 use Rattle.settext.specs.declared.Step.{Step}
 use Rattle.settext.specs.declared.Step.the-variants.{Next, Complete, Query, Malformed}
 use Rattle.settext.specs.Lines.{TextLists, After, lineOf}
-use Rattle.setread.proofs.Reached.{line}
+use Rattle.settext_laws.proofs.Reached.{line}
 use Rattle.points.specs.declared.Point3.{Point3}
 use Rattle.lookup.specs.declared.Lookup.{Lookup}
 use Rattle.loads.specs.declared.Loaded.{Loaded}
@@ -28,25 +29,33 @@ use Rattle.answers.specs.Answers.{setOf}
 use Rattle.queries.specs.declared.Phase.{Phase}
 use Rattle.queries.specs.declared.Phase.the-variants.{Ready, Over}
 use Rattle.queries.specs.Program.{Session, session, Turn, turnAs, stateIn, isOver, phaseAfter, loadTurn, byLoad, blockIn, stepTurn, afterTurn, lineTurn, Ears, earsOf, stepEars, afterEars, lineEars}
-use Rattle.queries.specs.Sound.{Few, SoundPhase}
-use Rattle.queries.specs.Machine.{betweenBytes, advanceAs, lineAdvance, partAdvance, advanceOf, partEars, advanceEars, Front, TurnSays}
+use Rattle.queries.specs.Sound.{SoundPhase}
+use Rattle.queries.specs.Machine.{betweenBytes, advanceAs, lineAdvance, partAdvance, advanceOf, partEars, advanceEars, advanceBuf, Front, TurnSays}
 
 -- once over, nothing is read and nothing printed
 pub silent : (room : ℕ) (a : At Session) (s : List ℕ) → isOver (a .known .phase) ≡ true → advanceOf room a s ≡ advanceAs a [] []
-unfolding advanceOf choose
+unfolding advanceOf
 silent room a s e = rw e
 
 pub silent-ears : (room : ℕ) (a : At Session) (s : List ℕ) (k : Ears) → isOver (a .known .phase) ≡ true → k ≡ advanceEars room a s k
-unfolding advanceEars choose
+unfolding advanceEars
 silent-ears room a s k e = rw e
 
 pub goes-by : (room : ℕ) (a : At Session) (s : List ℕ) → isOver (a .known .phase) ≡ false → advanceOf room a s ≡ partAdvance (a .known) (cut (take room) (a .have) s)
-unfolding advanceOf choose
+unfolding advanceOf
 goes-by room a s e = rw e
 
 ears-by : (room : ℕ) (a : At Session) (s : List ℕ) (k : Ears) → isOver (a .known .phase) ≡ false → partEars (a .known) (cut (take room) (a .have) s) k ≡ advanceEars room a s k
-unfolding advanceEars choose
+unfolding advanceEars
 ears-by room a s k e = rw e
+
+pub silent-buf : (room : ℕ) (a : At Session) (s buf : List ℕ) → isOver (a .known .phase) ≡ true → buf ≡ advanceBuf room a s buf
+unfolding advanceBuf
+silent-buf room a s buf e = rw e
+
+pub buf-by : (room : ℕ) (a : At Session) (s buf buf′ : List ℕ) → isOver (a .known .phase) ≡ false → buf′ ≡ over (partBytes (cut (take room) (a .have) s)) buf → buf′ ≡ advanceBuf room a s buf
+unfolding advanceBuf
+buf-by room a s buf buf′ e f = rw e f
 
 none-left : (s : List ℕ) → drop (length s) s ≡ []
 none-left s = let h : length s ≤ length s = omega arith in drop-of-length-le s h

@@ -11,10 +11,8 @@ use Rattle.text.specs.Lines.{Part, line, more, cut, whole as all}
 use Rattle.text.specs.Machine.{At, split, runs, afterPart, shortAt}
 use Rattle.text.proofs.Chunks.{runs-on, runs-kept, stays, by-lines, by-text, by-rest}
 use Rattle.settext.specs.Lines.{TextLists, After}
-use Rattle.setread.specs.Text.{joined}
-use Rattle.setread.proofs.Long.{long-lines}
-use Rattle.setread.proofs.Whole.{end-of}
-use Rattle.setread.proofs.Reached.{begins-so}
+use Rattle.settext_laws.proofs.Long.{long-lines, end-of}
+use Rattle.settext_laws.proofs.Reached.{begins-so}
 use Rattle.loads.specs.Load.{Work}
 use Rattle.queries.specs.declared.Run.{Run}
 use Rattle.queries.specs.declared.Told.{Told}
@@ -22,7 +20,7 @@ use Rattle.queries.specs.declared.Phase.{Phase}
 use Rattle.queries.specs.declared.Phase.the-variants.{Reading, Ready, Over}
 use Rattle.queries.specs.Program.{Session, Known, knownAs, Ears, stateIn, isOver, afterTurn, lineTurn, ended, printing, onLine, endText, closing, closed, begun, outputFrom, noLists, noWork, outputOf}
 use Rattle.queries.specs.Sound.{SoundPhase}
-use Rattle.queries.specs.Machine.{betweenBytes, Advance, partAdvance, advanceOf, runPlace, AdvanceSays, FinishSays, Makes, done, next, goes}
+use Rattle.queries.specs.Machine.{betweenBytes, Advance, partAdvance, advanceOf, runPlace, AdvanceSays, FinishSays, joined, Makes, done, next, goes}
 use Rattle.queries.proofs.Keeps.{turn-sound}
 use Rattle.queries.proofs.Turns.{silent, goes-by, front}
 

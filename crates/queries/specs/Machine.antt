@@ -1,12 +1,13 @@
 -- One turn of the program: it reads a chunk up to the end of a line, or to the chunk's end, and says what to print. Definitions only.
 use Prim.Native.Nat.{ℕ, _≤_, _<_}
 use mathlib.Core.Path.{_≡_}
+use mathlib.Core.Bool.{cond}
 use mathlib.Core.List.{List, [], _∷_, _++_}
 use lib.ListN.{length, take, drop}
 use lib.Ieee.{Float}
 use Rattle.lists.specs.Over.{over}
-use Rattle.text.specs.Lines.{Part, line, more, cut}
-use Rattle.text.specs.Machine.{At, choose}
+use Rattle.text.specs.Lines.{Part, line, more, partBytes, cut}
+use Rattle.text.specs.Machine.{At}
 use Rattle.points.specs.declared.Point3.{Point3}
 use Rattle.settext.specs.declared.State.{State}
 use Rattle.settext.specs.declared.Step.{Step}
@@ -47,7 +48,7 @@ partAdvance k (more h) = advanceAs (betweenBytes k h) [] []
 
 -- with a line buffer of so many bytes; once over, nothing is read and nothing printed
 unfoldable pub advanceOf : ℕ → At Session → List ℕ → Advance
-advanceOf room a s = choose (isOver (a .known .phase)) (advanceAs a [] []) (partAdvance (a .known) (cut (take room) (a .have) s))
+advanceOf room a s = cond (isOver (a .known .phase)) (advanceAs a [] []) (partAdvance (a .known) (cut (take room) (a .have) s))
 
 -- what the turn leaves in the two lists of responses
 abbrev pub partEars : Session → Part → Ears → Ears
@@ -55,7 +56,11 @@ partEars k (line l rest) e = lineEars k l e
 partEars k (more h) e = e
 
 unfoldable pub advanceEars : ℕ → At Session → List ℕ → Ears → Ears
-advanceEars room a s e = choose (isOver (a .known .phase)) e (partEars (a .known) (cut (take room) (a .have) s) e)
+advanceEars room a s e = cond (isOver (a .known .phase)) e (partEars (a .known) (cut (take room) (a .have) s) e)
+
+-- and in the line buffer: the bytes of its line at the front, and the rest of it stays
+unfoldable pub advanceBuf : ℕ → At Session → List ℕ → List ℕ → List ℕ
+advanceBuf room a s buf = cond (isOver (a .known .phase)) buf (over (partBytes (cut (take room) (a .have) s)) buf)
 
 -- the place that a run stands for, by the lent lists
 abbrev pub runPlace : Run → TextLists → Work → List ℕ → At Session
@@ -93,6 +98,7 @@ pub record AdvanceSays (chunk : List ℕ) (from : ℕ) (buf buf′ : List ℕ) (
   pub left : drop (r .next) chunk ≡ advanceOf 40000 (runPlace t d w buf) (drop from chunk) .left
   pub printed : Front (advanceOf 40000 (runPlace t d w buf) (drop from chunk) .printed) out out′ (r .count)
   pub ears : e′ ≡ advanceEars 40000 (runPlace t d w buf) (drop from chunk) e
+  pub buffer : buf′ ≡ advanceBuf 40000 (runPlace t d w buf) (drop from chunk) buf
   pub sound : Sound (r .run)
   pub next : r .next ≤ length chunk
   pub moves : from < length chunk → from < r .next
@@ -101,6 +107,11 @@ abbrev pub FinishSays : List ℕ → Run → List ℕ → List ℕ → ℕ → T
 FinishSays buf t out out′ r = Front (closing (t .phase) (take (t .used) buf)) out out′ r
 
 -- ---- chunk after chunk
+
+-- chunks put together
+unfoldable pub joined : List (List ℕ) → List ℕ
+joined [] = []
+joined (c ∷ cs) = c ++ joined cs
 
 -- The turns that a program can make of chunks, with a line buffer of so many bytes: from a place, over these chunks, printing this, to a place
 pub data Makes (room : ℕ) : At Session → List (List ℕ) → List ℕ → At Session → Type 0 where

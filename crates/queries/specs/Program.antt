@@ -15,7 +15,7 @@ use Rattle.settext.specs.declared.Step.the-variants.{Next, Complete, Query, Mal
 use Rattle.settext.specs.declared.End.{End}
 use Rattle.settext.specs.declared.End.the-variants.{Fine, Cut}
 use Rattle.settext.specs.State.{startState}
-use Rattle.settext.specs.Lines.{TextLists, After, lineOf, endOf}
+use Rattle.settext.specs.Lines.{TextLists, textLists, After, lineOf, endOf}
 use Rattle.loads.specs.declared.Loaded.{Loaded}
 use Rattle.loads.specs.declared.Loaded.the-variants as loaded
 use Rattle.loads.specs.Load.{Work, Load, workOf}
@@ -31,9 +31,6 @@ pub record Session : Type 0 where
   pub phase : Phase
   pub lists : TextLists
   pub work : Work
-
-abbrev pub textLists : List Float → List Float → List Float → TextLists
-textLists p r d = record { positions = p; responses = r; delays = d }
 
 abbrev pub session : Phase → TextLists → Work → Session
 session f d w = record { phase = f; lists = d; work = w }

@@ -1,8 +1,6 @@
--- What holds of every run that begins with `start`. Definitions only.
+-- What holds of every run that begins with `begin`. Definitions only.
 use Prim.Native.Nat.{ℕ, _≤_}
-use Rattle.settext.specs.declared.Step.{Step}
-use Rattle.setread.specs.Text.{stateOf}
-use Rattle.setread.specs.Kept.{Reached}
+use Rattle.settext_laws.specs.Kept.{Reached}
 use Rattle.queries.specs.declared.Phase.{Phase}
 use Rattle.queries.specs.declared.Run.{Run}
 use Rattle.queries.specs.Program.{stateIn}
@@ -10,9 +8,6 @@ use Rattle.queries.specs.Program.{stateIn}
 -- the counts of the set are within the limits of the text form
 abbrev pub SoundPhase : Phase → Type 0
 SoundPhase f = Reached (stateIn f)
-
-abbrev pub Few : Step → Type 0
-Few t = Reached (stateOf t)
 
 -- and the line begun is in the line buffer
 pub record Sound (t : Run) : Type 0 where

@@ -2,11 +2,11 @@
 //
 // specs/Program.antt says what the program prints of a whole text, `outputOf`, line by line as document 01's "The query program" has it; `advance`
 // equals one turn, `advanceOf` (specs/Machine.antt), and `finish` what is printed at the end. What is printed stands at the front of `out` and the
-// rest of it stays (`Front`); a query's responses stand in its two lists (`advanceEars`).
+// rest of it stays (`Front`); a query's responses stand in its two lists (`advanceEars`), and the line in `buf` (`advanceBuf`).
 //
 // proofs/Whole.antt: however the text is cut into chunks, all that the turns print and then the end come to `outputOf` of the text (`whole`, `program`),
 // and once over nothing more is printed (`nothing-more`). proofs/Turning.antt: there are turns for every text (`turns`). proofs/Order.antt: no
-// query comes before the set's last line, and nothing but queries after it (`in-order`). proofs/Each.antt: a loaded set prints one block for each
+// query comes before the set's last line, and nothing but queries after it (`text-in-order`). proofs/Each.antt: a loaded set prints one block for each
 // query, in their order (`each-block`). proofs/Keeps.antt: the limits of the text form hold after every line (`turn-sound`), so that the
 // program's lists are never too short (proofs/Enough.antt, `never-short`). proofs/Texts.antt: five short texts and all that is printed of them.
 ghost use mathlib.Core.Path.{_≡_};
@@ -14,9 +14,10 @@ ghost use Prim.Native.Nat.{_+_, _*_, _≤_};
 ghost use lib.ListN.{length};
 ghost use Rattle.lists.specs.Over.{over};
 ghost use Rattle.loads.specs.Load.{workOf};
-ghost use Rattle.settext.specs.Lines.{endOf};
-ghost use Rattle.queries.specs.Program.{textLists, stateIn, isOver, phaseAfter, earsOf, endText};
-ghost use Rattle.queries.specs.Sound.{Few, SoundPhase, Sound, Rooms};
+ghost use Rattle.settext.specs.Lines.{textLists, endOf};
+ghost use Rattle.settext_laws.specs.Kept.{Few};
+ghost use Rattle.queries.specs.Program.{stateIn, isOver, phaseAfter, earsOf, endText};
+ghost use Rattle.queries.specs.Sound.{SoundPhase, Sound, Rooms};
 ghost use Rattle.queries.specs.Machine.{startRun, AskSays, LoadSays, StepSays, LineSays, AdvanceSays, FinishSays};
 use loads::Loaded;
 use lookup::Lookup;
@@ -55,11 +56,11 @@ pub struct Told {
     pub count: usize,
 }
 
-pub fn start() -> Run
+pub fn begin() -> Run
     ensures { λ r. ⌜ r ≡ startRun ⌝ }
 {
     Run {
-        phase: Phase::Reading(settext::start()),
+        phase: Phase::Reading(settext::begin()),
         used: 0,
     }
 }
@@ -70,7 +71,7 @@ fn state_in(f: Phase) -> State
     match f {
         Phase::Reading(s) => s,
         Phase::Ready(s, _) => s,
-        Phase::Over => settext::start(),
+        Phase::Over => settext::begin(),
     }
 }
 
@@ -107,7 +108,8 @@ fn complete(
     cartesian: &mut [f32],
     out: &mut [u8],
 ) -> Turned
-    requires { ⌜ (3 * (s .m) ≤ length (now positions)) × (70 ≤ length (now out)) ⌝ }
+    requires { ⌜ (3 * (s .m) ≤ length (now positions))
+        × (70 ≤ length (now out)) ⌝ }
     ensures { λ r. ⌜ LoadSays s (now (positions .entry)) (now (responses .entry)) (workOf (now (left .entry)) (now (right .entry)) (now (neighbours .entry)) (now (cartesian .entry))) (workOf (now (left .exit)) (now (right .exit)) (now (neighbours .exit)) (now (cartesian .exit))) (now (out .entry)) (now (out .exit)) r ⌝ }
 {
     match answers::load(s, positions, responses, left, right, neighbours, cartesian) {
@@ -342,7 +344,8 @@ pub fn advance(
     out_right: &mut [f32; 4096],
     out: &mut [u8; 73848],
 ) -> Told
-    requires { ⌜ (at ≤ length (now chunk)) × Sound t ⌝ }
+    requires { ⌜ (at ≤ length (now chunk))
+        × Sound t ⌝ }
     ensures { λ r. ⌜ AdvanceSays (now (chunk .entry)) at (now (buf .entry)) (now (buf .exit)) t (textLists (now (positions .entry)) (now (responses .entry)) (now (delays .entry))) (textLists (now (positions .exit)) (now (responses .exit)) (now (delays .exit))) (workOf (now (left .entry)) (now (right .entry)) (now (neighbours .entry)) (now (cartesian .entry))) (workOf (now (left .exit)) (now (right .exit)) (now (neighbours .exit)) (now (cartesian .exit)))
         (earsOf (now («out_left» .entry)) (now («out_right» .entry))) (earsOf (now («out_left» .exit)) (now («out_right» .exit))) (now (out .entry)) (now (out .exit)) r ⌝ }
 {
@@ -375,7 +378,8 @@ fn end(s: State, rest: &[u8], out: &mut [u8]) -> usize
 }
 
 fn closing_of(t: Run, buf: &[u8], out: &mut [u8]) -> usize
-    requires { ⌜ (t .used ≤ length (now buf)) × (40 ≤ length (now out)) ⌝ }
+    requires { ⌜ (t .used ≤ length (now buf))
+        × (40 ≤ length (now out)) ⌝ }
     ensures { λ r. ⌜ FinishSays (now (buf .entry)) t (now (out .entry)) (now (out .exit)) r ⌝ }
 {
     let f = t.phase;

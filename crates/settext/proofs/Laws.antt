@@ -19,7 +19,7 @@ use Rattle.text.specs.Keys.{numBehind}
 use Rattle.settext.specs.declared.State.{State}
 use Rattle.settext.specs.declared.Step.{Step}
 use Rattle.settext.specs.State.{badOf}
-use Rattle.settext.specs.Lines.{product, keys, keyLine, queryLine, TextLists, After, posLine, irLine, delayLine, afterAs, lineOf}
+use Rattle.settext.specs.Lines.{product, keys, keyLine, queryLine, TextLists, textLists, After, posLine, irLine, delayLine, afterAs, lineOf}
 
 pub product16 : (a b : ℕ) → a < 65536 → b < 65536 → a * b ≤ 4294836225
 product16 a b ha hb = mul-le-mul {n₁ = a} {m₁ = b} {n₂ = 65535} {m₂ = 65535} (omega arith) (omega arith)
@@ -61,11 +61,8 @@ pub past-keys : (s : State) (l : List ℕ) → 9 ≤ s .lines → keyLine s l �
 unfolding keyLine
 past-keys s l h = ap (λ (f : State → List ℕ → Step). f s l) (List·getD-eq-default keys (λ s l. badOf s) h)
 
-abbrev pub listed : List Float → List Float → List Float → TextLists
-listed p r d = record { positions = p; responses = r; delays = d }
-
 abbrev pub made : Step → List Float → List Float → List Float → After
-made t p r d = afterAs t (listed p r d)
+made t p r d = afterAs t (textLists p r d)
 
 pub same : {t t′ : Step} {p p′ r r′ d d′ : List Float} → t ≡ t′ → p ≡ p′ → r ≡ r′ → d ≡ d′ → made t p r d ≡ made t′ p′ r′ d′
 same {t} {t′} {p} {p′} {r} {r′} {d} {d′} a b c e =

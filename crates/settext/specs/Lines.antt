@@ -82,6 +82,9 @@ pub record TextLists : Type 0 where
   pub responses : List Float
   pub delays : List Float
 
+abbrev pub textLists : List Float → List Float → List Float → TextLists
+textLists p r d = record { positions = p; responses = r; delays = d }
+
 pub record After : Type 0 where
   pub step : Step
   pub lists : TextLists
@@ -103,34 +106,31 @@ queryLine s l = asked s (pointBehind (bytes "query=") l)
 abbrev pub posLine : State → List ℕ → TextLists → ℕ → After
 posLine s l d i = record {
   step = valuesStep s (bytes "pos=") l 3 (3 * i) (d .positions);
-  lists = record { positions = valuesList (bytes "pos=") l 3 (3 * i) (d .positions); responses = d .responses; delays = d .delays };
+  lists = textLists (valuesList (bytes "pos=") l 3 (3 * i) (d .positions)) (d .responses) (d .delays);
 }
 
 abbrev pub irLine : State → List ℕ → TextLists → ℕ → After
 irLine s l d i = record {
   step = valuesStep s (bytes "ir=") l (s .n) (i * s .n) (d .responses);
-  lists = record { positions = d .positions; responses = valuesList (bytes "ir=") l (s .n) (i * s .n) (d .responses); delays = d .delays };
+  lists = textLists (d .positions) (valuesList (bytes "ir=") l (s .n) (i * s .n) (d .responses)) (d .delays);
 }
 
 abbrev pub delayLine : State → List ℕ → TextLists → ℕ → After
 delayLine s l d i = record {
   step = valuesStep s (bytes "delay=") l 1 i (d .delays);
-  lists = record { positions = d .positions; responses = d .responses; delays = valuesList (bytes "delay=") l 1 i (d .delays) };
+  lists = textLists (d .positions) (d .responses) (valuesList (bytes "delay=") l 1 i (d .delays));
 }
 
 abbrev pub afterAs : Step → TextLists → After
 afterAs t d = record { step = t; lists = d }
 
-abbrev pub pickAfter : Bool → After → After → After
-pickAfter b x y = cond b x y
-
 -- One line: the nine keys, m `pos` lines, m·r `ir` lines of n values, `delays` delay lines, then queries
 unfoldable pub lineOf : State → List ℕ → TextLists → After
 lineOf s l d =
-    pickAfter (ltb (s .lines) keyCount) (afterAs (keyLine s l) d)
-    (pickAfter (ltb (s .lines - keyCount) (s .m)) (posLine s l d (s .lines - keyCount))
-    (pickAfter (ltb (s .lines - keyCount - s .m) (s .m * s .r)) (irLine s l d (s .lines - keyCount - s .m))
-    (pickAfter (ltb (s .lines - keyCount - s .m - s .m * s .r) (s .delays)) (delayLine s l d (s .lines - keyCount - s .m - s .m * s .r))
+    cond (ltb (s .lines) keyCount) (afterAs (keyLine s l) d)
+    (cond (ltb (s .lines - keyCount) (s .m)) (posLine s l d (s .lines - keyCount))
+    (cond (ltb (s .lines - keyCount - s .m) (s .m * s .r)) (irLine s l d (s .lines - keyCount - s .m))
+    (cond (ltb (s .lines - keyCount - s .m - s .m * s .r) (s .delays)) (delayLine s l d (s .lines - keyCount - s .m - s .m * s .r))
     (afterAs (queryLine s l) d))))
 
 -- ---- the end

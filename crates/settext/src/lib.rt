@@ -4,7 +4,7 @@
 // `endOf`. Which line is wanted follows from how many were read, since each of them was well formed; the next one's number is K of a form error.
 ghost use mathlib.Core.Path.{_≡_};
 ghost use Rattle.settext.specs.State.{startState, lineNumber, lineCount, wentOf, badOf};
-ghost use Rattle.settext.specs.Lines.{kindOf, product, formLine, kindLine, mLine, rLine, nLine, rateLine, astepLine, rstepLine, delaysLine, keyLine, valuesStep, valuesList, queryLine, After, lineOf, endOf};
+ghost use Rattle.settext.specs.Lines.{kindOf, product, formLine, kindLine, mLine, rLine, nLine, rateLine, astepLine, rstepLine, delaysLine, keyLine, valuesStep, valuesList, queryLine, textLists, afterAs, lineOf, endOf};
 use points::Point3;
 use text::Num;
 use text::Place;
@@ -36,7 +36,7 @@ pub enum End {
     Cut(usize),
 }
 
-pub fn start() -> State
+pub fn begin() -> State
     ensures { λ r. ⌜ r ≡ startState ⌝ }
 {
     State {
@@ -62,7 +62,7 @@ fn number(s: State) -> usize
     }
 }
 
-fn total(s: State) -> usize
+fn line_count(s: State) -> usize
     ensures { λ r. ⌜ r ≡ lineCount s ⌝ }
 {
     let m = s.m as usize;
@@ -75,7 +75,7 @@ fn went(s: State) -> Step
     let k = number(s);
     let mut t = s;
     t.lines = k;
-    if k == total(s) {
+    if k == line_count(s) {
         Step::Complete(t)
     } else {
         Step::Next(t)
@@ -264,7 +264,8 @@ pub fn take_line(
     responses: &mut [f32],
     delays: &mut [f32],
 ) -> Step
-    ensures { λ r. ⌜ _≡_ {A = After} (record { step = r; lists = record { positions = now (positions .exit); responses = now (responses .exit); delays = now (delays .exit) } }) (lineOf s (now (line .entry)) (record { positions = now (positions .entry); responses = now (responses .entry); delays = now (delays .entry) })) ⌝ }
+    ensures { λ r. ⌜ afterAs r (textLists (now (positions .exit)) (now (responses .exit)) (now (delays .exit)))
+        ≡ lineOf s (now (line .entry)) (textLists (now (positions .entry)) (now (responses .entry)) (now (delays .entry))) ⌝ }
 {
     let k = s.lines;
     if k < 9 {
@@ -291,7 +292,7 @@ pub fn take_line(
 pub fn at_end(s: State, rest: &[u8]) -> End
     ensures { λ r. ⌜ r ≡ endOf s (now (rest .entry)) ⌝ }
 {
-    if (s.lines < total(s)) | (rest.len() != 0) {
+    if (s.lines < line_count(s)) | (rest.len() != 0) {
         return End::Cut(number(s));
     }
     End::Fine

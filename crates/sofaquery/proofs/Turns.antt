@@ -11,19 +11,22 @@ use lib.Signed.{ltZ}
 use lib.ListN.{length, take, drop, length-append, length-drop}
 use borrow.Author.Tests.{le-leb, lt-leb, ltb-true}
 use lib.Seq.{length-take-le}
+use mir.Syntax.{w64}
+use mir.Val.{SFits, toZ, ofZ}
+use mir.Facts.{toZ-ofZ}
 use Rattle.io.specs.Counts.{clamped}
+use Rattle.libc.specs.Io.{Moved}
 use Rattle.text.specs.Machine.{At}
-use Rattle.setread.specs.Text.{joined}
 use Rattle.queries.specs.declared.Phase.{Phase}
 use Rattle.queries.specs.declared.Run.{Run}
 use Rattle.queries.specs.Program.{Session, isOver, Ears, closing, outputOf}
-use Rattle.queries.specs.Machine.{advanceOf, Makes}
+use Rattle.queries.specs.Machine.{advanceOf, joined, Makes}
 use Rattle.queries.specs.Machine.Makes.{done, next, goes}
 use Rattle.queries.proofs.Whole.{program}
 use Rattle.sofaquery.specs.declared.Flow.{Flow}
 use Rattle.sofaquery.specs.declared.Flow.the-variants.{More, Ended, Unread, Unwritten}
 use Rattle.sofaquery.specs.declared.Went.{Went}
-use Rattle.sofaquery.specs.Calls.{goesOn, readFlow, afterRead, writeFlow, afterWrite, ListsHeld, held, heldAfter, Stand, standAt, usedUp, reading, turnAt, wroteTurn, Call, read, write, Ran, none, reads, turns, startStand, Made, readIn, writtenIn}
+use Rattle.sofaquery.specs.Calls.{goesOn, readFlow, afterRead, writeFlow, afterWrite, ListsHeld, held, heldAfter, Stand, standAt, usedUp, reading, turnAt, wroteTurn, Call, read, write, Answered, Ran, none, reads, turns, startStand, Made, readIn, writtenIn}
 
 -- ---- by what a call answered
 
@@ -59,20 +62,20 @@ not-done false all e f = absurd (subst T e tt)
 
 then : {a z y : Stand} {cs ds : List Call} → Ran a cs z → Ran z ds y → Ran a (cs ++ ds) y
 then none n = n
-then (reads got bytes e f m) n = reads got bytes e f (then m n)
-then (turns ok e f m) n = turns ok e f (then m n)
+then (reads got bytes h e f m) n = reads got bytes h e f (then m n)
+then (turns ok h e f m) n = turns ok h e f (then m n)
 
 module _ (left left′ : ℕ) (fewer : left ≡ left′ + 1) {a : Stand} (m : Made left a) where
   one-more : (c : Call) → length (m .calls ++ (c ∷ [])) + left′ ≡ 18446744073709551615
   one-more c = omega (arith, length-append (m .calls) (c ∷ []), m .counted, fewer)
 
   module _ (going : goesOn (a .flow) ≡ true) where
-    read-more : (got : ℤ) (bytes : List ℕ) → usedUp (a .rest) ≡ true → Made left′ (reading a got bytes)
-    read-more got bytes f = record { calls = m .calls ++ (read got bytes ∷ []); ran = then (m .ran) (reads got bytes going f none); counted = one-more (read got bytes) }
+    read-more : (got : ℤ) (bytes : List ℕ) → Answered (read got bytes) → usedUp (a .rest) ≡ true → Made left′ (reading a got bytes)
+    read-more got bytes h f = record { calls = m .calls ++ (read got bytes ∷ []); ran = then (m .ran) (reads got bytes h going f none); counted = one-more (read got bytes) }
 
-    turn-more : (ok : Bool) → usedUp (a .rest) ≡ false → Made left′ (wroteTurn a ok)
-    turn-more ok f =
-        record { calls = m .calls ++ (write (turnAt a .printed) ok ∷ []); ran = then (m .ran) (turns ok going f none); counted = one-more (write (turnAt a .printed) ok) }
+    turn-more : (ok : Bool) → Answered (write (turnAt a .printed) ok) → usedUp (a .rest) ≡ false → Made left′ (wroteTurn a ok)
+    turn-more ok h f =
+        record { calls = m .calls ++ (write (turnAt a .printed) ok ∷ []); ran = then (m .ran) (turns ok h going f none); counted = one-more (write (turnAt a .printed) ok) }
 
 used-drop : (xs : List ℕ) (n : ℕ) → usedUp (drop n xs) ≡ leb (length xs) n
 used-drop xs n = by-length (drop n xs) (length xs) n (length-drop n xs)
@@ -84,6 +87,14 @@ used-drop xs n = by-length (drop n xs) (length xs) n (length-drop n xs)
 clamped-in : (z : ℤ) (n : ℕ) → clamped z n ≤ n
 clamped-in (pos k) n = omega arith
 clamped-in (negsuc k) n = omega arith
+
+-- what a read answers, as the machine keeps it
+pub answered : (n : ℕ) (z : ℤ) → n ≡ 65536 → Moved n z → Moved 65536 (toZ w64 (ofZ w64 z))
+answered n z e h = rw (toZ-ofZ (fits z (subst (λ (k : ℕ). Moved k z) e h))) (subst (λ (k : ℕ). Moved k z) e h)
+  where
+    fits : (z : ℤ) → Moved 65536 z → SFits w64 z
+    fits (pos k) h = let g : k < 9223372036854775808 = omega arith in record { sfits = g }
+    fits (negsuc k) h = let g : k < 9223372036854775808 = omega arith in record { sfits = g }
 
 -- after a read
 module _ (t : Run) (got : ℤ) where
@@ -115,8 +126,8 @@ module _ (t : Run) (to have : ℕ) (ok : Bool) where
     unfolding afterWrite
     write-have = ap (λ (w : Went). w .have) e
 
-pub same-held : {a b : At Session} {e f : Ears} {o p : List ℕ} → a ≡ b → e ≡ f → o ≡ p → held a e o ≡ held b f p
-same-held x y z = cc
+pub same-held : {a b : At Session} {k l : List ℕ} {e f : Ears} {o p : List ℕ} → a ≡ b → k ≡ l → e ≡ f → o ≡ p → held a k e o ≡ held b l f p
+same-held x v y z = cc
 
 -- a call more, over the bytes of the chunk that it has, from a place on
 module _ (left left′ : ℕ) (fewer : left ≡ left′ + 1) (a : ListsHeld) (chunk : List ℕ) (have at : ℕ) (room : have ≤ length chunk) (flow : Flow)
@@ -127,22 +138,22 @@ module _ (left left′ : ℕ) (fewer : left ≡ left′ + 1) (a : ListsHeld) (ch
   used : (n : ℕ) → usedUp (drop n (take have chunk)) ≡ leb have n
   used n = used-drop (take have chunk) n ∙ ap (λ (k : ℕ). leb k n) len
 
-  pub chunk-more : have ≤ at → (place : Run → ListsHeld) (t : Run) → place t ≡ a → (got : ℤ) (bytes : List ℕ) (w : Went) → w ≡ afterRead t got
+  pub chunk-more : have ≤ at → (place : Run → ListsHeld) (t : Run) → place t ≡ a → (got : ℤ) (bytes : List ℕ) → Answered (read got bytes) → (w : Went) → w ≡ afterRead t got
       → Made left′ (standAt (place (w .run)) (drop (w .at) (take (w .have) bytes)) (w .flow))
   unfolding afterRead
-  chunk-more h place t p got bytes w e =
-      let m1 : Made left′ (standAt a (take (clamped got 65536) bytes) (readFlow got)) = read-more left left′ fewer m going got bytes (used at ∙ le-leb have at h) in
+  chunk-more h place t p got bytes g w e =
+      let m1 : Made left′ (standAt a (take (clamped got 65536) bytes) (readFlow got)) = read-more left left′ fewer m going got bytes g (used at ∙ le-leb have at h) in
       let m2 : Made left′ (standAt (place t) (take (clamped got 65536) bytes) (readFlow got)) = subst (λ (b : ListsHeld). Made left′ (standAt b (take (clamped got 65536) bytes) (readFlow got))) (sym p) m1 in
       subst (λ (w : Went). Made left′ (standAt (place (w .run)) (drop (w .at) (take (w .have) bytes)) (w .flow))) (sym e) m2
 
   pub line-more : at < have → (place : Run → ListsHeld) (t : Run) (to : ℕ) → place t ≡ heldAfter a (drop at (take have chunk)) → drop to (take have chunk) ≡ advanceOf 40000 (a .place) (drop at (take have chunk)) .left
-      → place t .place .known .phase ≡ t .phase → (ok : Bool) (w : Went) → w ≡ afterWrite t to have ok → Made left′ (standAt (place (w .run)) (drop (w .at) (take (w .have) chunk)) (w .flow))
+      → place t .place .known .phase ≡ t .phase → (ok : Bool) → Answered (write (advanceOf 40000 (a .place) (drop at (take have chunk)) .printed) ok) → (w : Went) → w ≡ afterWrite t to have ok → Made left′ (standAt (place (w .run)) (drop (w .at) (take (w .have) chunk)) (w .flow))
   unfolding afterWrite
-  line-more h place t to e f p ok w said =
+  line-more h place t to e f p ok g w said =
       let on : ListsHeld → List ℕ → Bool → Phase → Type 0 = λ z l u f. Made left′ (standAt z l (writeFlow ok (u && isOver f))) in
       let v = advanceOf 40000 (a .place) (drop at (take have chunk)) in
       let rest = drop to (take have chunk) in
-      let m1 : on (heldAfter a (drop at (take have chunk))) (v .left) (usedUp (v .left)) (v .place .known .phase) = turn-more left left′ fewer m going ok (used at ∙ lt-leb have at h) in
+      let m1 : on (heldAfter a (drop at (take have chunk))) (v .left) (usedUp (v .left)) (v .place .known .phase) = turn-more left left′ fewer m going ok g (used at ∙ lt-leb have at h) in
       let m2 : on (place t) (v .left) (usedUp (v .left)) (place t .place .known .phase) = subst (λ (z : ListsHeld). on z (v .left) (usedUp (v .left)) (z .place .known .phase)) (sym e) m1 in
       let m3 : on (place t) rest (usedUp rest) (place t .place .known .phase) = subst (λ (l : List ℕ). on (place t) l (usedUp l) (place t .place .known .phase)) (sym f) m2 in
       let m4 : on (place t) rest (leb have to) (place t .place .known .phase) = subst (λ (u : Bool). on (place t) rest u (place t .place .known .phase)) (used to) m3 in
@@ -152,8 +163,8 @@ module _ (left left′ : ℕ) (fewer : left ≡ left′ + 1) (a : ListsHeld) (ch
 -- What the system answered decides all: two runs of the same calls come to the same place, lists and all
 pub same-end : {a z y : Stand} {cs : List Call} → Ran a cs z → Ran a cs y → z ≡ y
 same-end none none = refl
-same-end (reads got bytes e f m) (reads got′ bytes′ e′ f′ n) = same-end m n
-same-end (turns ok e f m) (turns ok′ e′ f′ n) = same-end m n
+same-end (reads got bytes h e f m) (reads got′ bytes′ h′ e′ f′ n) = same-end m n
+same-end (turns ok h e f m) (turns ok′ h′ e′ f′ n) = same-end m n
 
 -- ---- what the calls wrote
 
@@ -179,8 +190,8 @@ nothing-left true false o e = absurd (subst T (sym (ap ended e)) tt)
 
 all-read : {a z : Stand} {cs : List Call} → Ran a cs z → AllRead a → AllRead z
 all-read none h = h
-all-read (reads got bytes e f m) h = all-read m (nothing-read got bytes)
-all-read {a} (turns ok e f m) h = all-read m (nothing-left ok (usedUp (turnAt a .left)) (isOver (turnAt a .place .known .phase)))
+all-read (reads got bytes g e f m) h = all-read m (nothing-read got bytes)
+all-read {a} (turns ok g e f m) h = all-read m (nothing-left ok (usedUp (turnAt a .left)) (isOver (turnAt a .place .known .phase)))
 
 empty : (xs : List ℕ) → usedUp xs ≡ true → xs ≡ []
 empty [] e = refl
@@ -190,8 +201,8 @@ empty (x ∷ xs) e = absurd (subst T (sym e) tt)
 makes : {a z : Stand} {cs : List Call} → Ran a cs z → z .rest ≡ [] → Makes 40000 (a .held .place) (a .rest ∷ readIn cs) (writtenIn cs) (z .held .place)
 unfolding readIn writtenIn
 makes none e = rw e (next done)
-makes {a} (reads {cs = cs} got bytes h u m) e = rw (empty (a .rest) u) (next (makes m e))
-makes (turns ok h u m) e = goes (makes m e)
+makes {a} (reads {cs = cs} got bytes g h u m) e = rw (empty (a .rest) u) (next (makes m e))
+makes (turns ok g h u m) e = goes (makes m e)
 
 -- Where the program ends with the text: what it was to write, and then what it writes last, is the output that document 01 gives what it read
 pub whole-output : {calls : List Call} {z : Stand} → Ran startStand calls z → z .flow ≡ Ended

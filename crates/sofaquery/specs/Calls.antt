@@ -10,13 +10,14 @@ use lib.Ieee.{Float}
 use Rattle.floats.specs.Floats.{zero32}
 use Rattle.lists.specs.Over.{over}
 use Rattle.io.specs.Counts.{clamped}
+use Rattle.libc.specs.Io.{Moved}
 use Rattle.text.specs.Machine.{At}
-use Rattle.settext.specs.Lines.{TextLists}
+use Rattle.settext.specs.Lines.{TextLists, textLists}
 use Rattle.loads.specs.Load.{Work, workOf}
 use Rattle.queries.specs.declared.Run.{Run}
-use Rattle.queries.specs.Program.{Session, textLists, isOver, Ears, earsOf, closing, begun, noLists, noWork}
+use Rattle.queries.specs.Program.{Session, isOver, Ears, earsOf, closing, begun, noLists, noWork}
 use Rattle.queries.specs.Sound.{Sound}
-use Rattle.queries.specs.Machine.{Advance, startRun, betweenBytes, runPlace, advanceOf, advanceEars}
+use Rattle.queries.specs.Machine.{Advance, startRun, betweenBytes, runPlace, advanceOf, advanceEars, advanceBuf}
 use Rattle.sofaquery.specs.declared.Flow.{Flow}
 use Rattle.sofaquery.specs.declared.Flow.the-variants.{More, Ended, Unread, Unwritten}
 use Rattle.sofaquery.specs.declared.Went.{Went}
@@ -74,28 +75,29 @@ notTaken t count = isOver (t .phase) || ltb 0 count
 
 -- ---- call after call
 
--- what the program's lists hold: the machine's place, the responses of the last query, and the list of what is to be written
+-- what the program's lists hold: the machine's place, the line buffer, the responses of the last query, and the list of what is to be written
 pub record ListsHeld : Type 0 where
   pub place : At Session
+  pub buf : List ℕ
   pub ears : Ears
   pub out : List ℕ
 
-abbrev pub held : At Session → Ears → List ℕ → ListsHeld
-held a e out = record { place = a; ears = e; out = out }
+abbrev pub held : At Session → List ℕ → Ears → List ℕ → ListsHeld
+held a buf e out = record { place = a; buf = buf; ears = e; out = out }
 
 abbrev pub here : Run → List ℕ → List Float → List Float → List Float → List ℕ → List ℕ → List ℕ → List Float → List Float → List Float → List ℕ → ListsHeld
 here t buf positions responses delays left right neighbours cartesian outLeft outRight out =
-    held (runPlace t (textLists positions responses delays) (workOf left right neighbours cartesian) buf) (earsOf outLeft outRight) out
+    held (runPlace t (textLists positions responses delays) (workOf left right neighbours cartesian) buf) buf (earsOf outLeft outRight) out
 
 -- all zeros
 abbrev pub startHeld : ListsHeld
-startHeld = held (betweenBytes (begun noLists noWork) []) (earsOf (replicate 4096 zero32) (replicate 4096 zero32)) (replicate 73848 0)
+startHeld = held (betweenBytes (begun noLists noWork) []) (replicate 40000 0) (earsOf (replicate 4096 zero32) (replicate 4096 zero32)) (replicate 73848 0)
 
 -- after a turn over the rest of a chunk
 abbrev pub heldAfter : ListsHeld → List ℕ → ListsHeld
 heldAfter h rest =
     let v = advanceOf 40000 (h .place) rest in
-    held (v .place) (advanceEars 40000 (h .place) rest (h .ears)) (over (v .printed) (h .out))
+    held (v .place) (advanceBuf 40000 (h .place) rest (h .buf)) (advanceEars 40000 (h .place) rest (h .ears)) (over (v .printed) (h .out))
 
 -- where the program is: what its lists hold, what is left of the chunk, and what came of the last call
 pub record Stand : Type 0 where
@@ -128,12 +130,17 @@ pub data Call : Type 0 where
   read : ℤ → List ℕ → Call
   write : List ℕ → Bool → Call
 
+-- What is known of an answer: a read fails with -1 or counts bytes of the chunk, and nothing to write goes well
+abbrev pub Answered : Call → Type 0
+Answered (read got bytes) = Moved 65536 got
+Answered (write text ok) = text ≡ [] → ok ≡ true
+
 -- The calls that the program makes from one place to another: while there may be more to read, it reads where the chunk is used up, and
 -- else makes a turn and writes what that says
 pub data Ran : Stand → List Call → Stand → Type 0 where
   none : {a : Stand} → Ran a [] a
-  reads : {a z : Stand} {cs : List Call} (got : ℤ) (bytes : List ℕ) → goesOn (a .flow) ≡ true → usedUp (a .rest) ≡ true → Ran (reading a got bytes) cs z → Ran a (read got bytes ∷ cs) z
-  turns : {a z : Stand} {cs : List Call} (ok : Bool) → goesOn (a .flow) ≡ true → usedUp (a .rest) ≡ false → Ran (wroteTurn a ok) cs z → Ran a (write (turnAt a .printed) ok ∷ cs) z
+  reads : {a z : Stand} {cs : List Call} (got : ℤ) (bytes : List ℕ) → Answered (read got bytes) → goesOn (a .flow) ≡ true → usedUp (a .rest) ≡ true → Ran (reading a got bytes) cs z → Ran a (read got bytes ∷ cs) z
+  turns : {a z : Stand} {cs : List Call} (ok : Bool) → Answered (write (turnAt a .printed) ok) → goesOn (a .flow) ≡ true → usedUp (a .rest) ≡ false → Ran (wroteTurn a ok) cs z → Ran a (write (turnAt a .printed) ok ∷ cs) z
 
 -- before the first call
 abbrev pub startStand : Stand
@@ -158,7 +165,7 @@ pub record Ends (w : Went) (buf out : List ℕ) : Type 0 where
   pub lists : TextLists
   pub work : Work
   pub ears : Ears
-  pub came : Came (held (runPlace (w .run) lists work buf) ears out) w
+  pub came : Came (held (runPlace (w .run) lists work buf) buf ears out) w
 
 -- ---- what was read and what was to be written
 

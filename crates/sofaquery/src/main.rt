@@ -4,12 +4,13 @@
 // No contract can speak of what was read or written. What the system answered is a value: each function that decides by it is an equation over it
 // (`afterRead`, `afterWrite`, `endFlow`), and `run` is exactly those steps, one for each call that it made, until one of them ends it
 // (`Ran`, `Came`, specs/Calls.antt). proofs/Turns.antt: the answers decide where it comes to, lists and all (`same-end`), and where it ends with the
-// text, all that it was to write is `outputOf` of all that it read (`whole-output`). Memory is the lists of `main` and one chunk, whatever the
-// number of queries.
+// text, all that it was to write is `outputOf` of all that it read (`whole-output`). That the answers are the system's own no contract can say
+// (docs/EXCEPTIONS.md). Memory is the lists of `main` and one chunk, whatever the number of queries.
 //
 // Where the system fails to read or to write, nothing more is written, since the text then has no end to speak of, and one line on standard error says so.
 ghost use Prim.Native.Nat.{_≤_};
 ghost use mathlib.Core.Path.{_≡_};
+ghost use mathlib.Core.Bool.{true};
 ghost use lib.ListN.{length};
 ghost use Rattle.queries.specs.Sound.{Sound};
 ghost use Rattle.queries.specs.Machine.{startRun, Front};
@@ -40,7 +41,7 @@ fn begin() -> Went
     ensures { λ r. ⌜ r ≡ startWent ⌝ }
 {
     Went {
-        run: queries::start(),
+        run: queries::begin(),
         at: 0,
         have: 0,
         flow: Flow::More,
@@ -109,10 +110,14 @@ fn after_write(run: Run, at: usize, have: usize, ok: bool) -> Went
     }
 }
 
-// Writes so many bytes at the front of out: whether that went well.
+// Writes so many bytes at the front of out: whether that went well. Nothing to write goes well.
 fn write(out: &[u8], count: usize) -> bool
     requires { ⌜ count ≤ length (now out) ⌝ }
+    ensures { λ r. ⌜ (count ≡ 0 → r ≡ true) ⌝ }
 {
+    if count == 0 {
+        return true;
+    }
     io::write_all(1, &out[..count])
 }
 
@@ -130,8 +135,13 @@ fn run(
     out_right: &mut [f32; 4096],
     out: &mut [u8; 73848],
 ) -> Went
-    requires { ⌜ here startRun (now buf) (now positions) (now responses) (now delays) (now left) (now right) (now neighbours) (now cartesian) (now «out_left») (now «out_right») (now out) ≡ startHeld ⌝ }
-    ensures { λ r. ⌜ Came (here (r .run) (now (buf .exit)) (now (positions .exit)) (now (responses .exit)) (now (delays .exit)) (now (left .exit)) (now (right .exit)) (now (neighbours .exit)) (now (cartesian .exit)) (now («out_left» .exit)) (now («out_right» .exit)) (now (out .exit))) r ⌝ }
+    requires { ⌜ here startRun (now buf) (now positions) (now responses) (now delays)
+        (now left) (now right) (now neighbours) (now cartesian)
+        (now «out_left») (now «out_right») (now out)
+        ≡ startHeld ⌝ }
+    ensures { λ r. ⌜ Came (here (r .run) (now (buf .exit)) (now (positions .exit)) (now (responses .exit)) (now (delays .exit))
+        (now (left .exit)) (now (right .exit)) (now (neighbours .exit)) (now (cartesian .exit))
+        (now («out_left» .exit)) (now («out_right» .exit)) (now (out .exit))) r ⌝ }
 {
     let mut chunk = [0u8; 65536];
     let mut went = begin();

@@ -1,17 +1,16 @@
 -- Where a text is divided does not matter, the machine goes by lines, and the buffer does not show. Assumes nothing.
 use Prim.Native.Nat.{ℕ, zero, suc}
 use mathlib.Core.Path.{_≡_, refl, sym, ap, subst, _∙_}
-use mathlib.Core.Bool.{Bool, true, false}
+use mathlib.Core.Bool.{Bool, true, false, cond}
 use mathlib.Core.List.{List, [], _∷_, _++_}
 use lib.Dec.{T, eqb}
 use lib.ListN.{take}
 use lib.Seq.{take-nil}
 use Rattle.text.specs.Lines.{Part, line, cut, goOn, shorten, whole}
-use Rattle.text.specs.Lines.{pickPart}
-use Rattle.text.specs.Machine.{At, choose, splitFrom, behind, reads, byte, runs, afterPart, shortAt}
+use Rattle.text.specs.Machine.{At, splitFrom, behind, reads, byte, runs, afterPart, shortAt}
 
-picked : (b : Bool) (keep : List ℕ → List ℕ) (t : List ℕ) (x y : Part) → pickPart b (goOn keep t x) (goOn keep t y) ≡ goOn keep t (pickPart b x y)
-unfolding pickPart goOn
+picked : (b : Bool) (keep : List ℕ → List ℕ) (t : List ℕ) (x y : Part) → cond b (goOn keep t x) (goOn keep t y) ≡ goOn keep t (cond b x y)
+unfolding goOn
 picked true keep t x y = refl
 picked false keep t x y = refl
 
@@ -28,8 +27,7 @@ kept-on zero h t = refl
 kept-on (suc room) [] t = refl
 kept-on (suc room) (x ∷ h) t = ap (λ (l : List ℕ). x ∷ l) (kept-on room h t)
 
-shortened : (b : Bool) (room : ℕ) (x y : Part) → pickPart b (shorten room x) (shorten room y) ≡ shorten room (pickPart b x y)
-unfolding pickPart
+shortened : (b : Bool) (room : ℕ) (x y : Part) → cond b (shorten room x) (shorten room y) ≡ shorten room (cond b x y)
 shortened true room x y = refl
 shortened false room x y = refl
 
@@ -50,24 +48,22 @@ module _ {S : Type 0} (ended : S → Bool) (onLine : S → List ℕ → S) where
 
     -- once it has ended nothing changes
     pub stays : (a : At S) (s : List ℕ) → ended (a .known) ≡ true → runs ended onLine keep a s ≡ a
-    unfolding runs byte choose
+    unfolding runs byte
     stays a [] e = refl
     stays a (b ∷ s) e = rw e (stays a s e)
 
-    after-pick : (k : S) (b : Bool) (x y : Part) → afterPart ended onLine keep k (pickPart b x y) ≡ choose b (afterPart ended onLine keep k x) (afterPart ended onLine keep k y)
-    unfolding pickPart choose
+    after-pick : (k : S) (b : Bool) (x y : Part) → afterPart ended onLine keep k (cond b x y) ≡ cond b (afterPart ended onLine keep k x) (afterPart ended onLine keep k y)
     after-pick k true x y = refl
     after-pick k false x y = refl
 
-    runs-choose : (b : Bool) (x y : At S) (s : List ℕ) → runs ended onLine keep (choose b x y) s ≡ choose b (runs ended onLine keep x s) (runs ended onLine keep y s)
-    unfolding choose
+    runs-choose : (b : Bool) (x y : At S) (s : List ℕ) → runs ended onLine keep (cond b x y) s ≡ cond b (runs ended onLine keep x s) (runs ended onLine keep y s)
     runs-choose true x y s = refl
     runs-choose false x y s = refl
 
     opened : (k : S) (have : List ℕ) (b : ℕ) → ended k ≡ false
         → byte ended onLine keep (record { known = k; have = have }) b
-        ≡ choose (eqb b 10) (record { known = onLine k have; have = [] }) (record { known = k; have = keep (have ++ (b ∷ [])) })
-    unfolding byte choose
+        ≡ cond (eqb b 10) (record { known = onLine k have; have = [] }) (record { known = k; have = keep (have ++ (b ∷ [])) })
+    unfolding byte
     opened k have b e = rw e
 
     -- The machine over a chunk, by the parts that `cut` finds
@@ -79,21 +75,21 @@ module _ {S : Type 0} (ended : S → Bool) (onLine : S → List ℕ → S) where
         let grown : At S = record { known = k; have = keep (have ++ (b ∷ [])) } in
         ap (λ (a : At S). runs ended onLine keep a s) (opened k have b e)
         ∙ runs-choose (eqb b 10) here grown s
-        ∙ ap (λ (a : At S). choose (eqb b 10) (runs ended onLine keep here s) a) (by-lines k (keep (have ++ (b ∷ []))) s e)
+        ∙ ap (λ (a : At S). cond (eqb b 10) (runs ended onLine keep here s) a) (by-lines k (keep (have ++ (b ∷ []))) s e)
         ∙ sym (after-pick k (eqb b 10) (line have s) (cut keep (keep (have ++ (b ∷ []))) s))
 
   -- The buffer does not show in what is known, where `onLine` does not look past its room; P is what holds of all that is known
   pub runs-kept : (room : ℕ) (P : S → Type 0) → ((k : S) (l : List ℕ) → P k → P (onLine k l)) → ((k : S) (l : List ℕ) → P k → onLine k (take room l) ≡ onLine k l)
       → (k : S) (have s : List ℕ) → P k
       → runs ended onLine (take room) (record { known = k; have = take room have }) s ≡ shortAt room (runs ended onLine whole (record { known = k; have = have }) s)
-  unfolding runs byte choose
+  unfolding runs byte
   runs-kept room P holds blind k have [] p = refl
   runs-kept room P holds blind k have (b ∷ s) p = step (λ k h p. runs-kept room P holds blind k h s p) (ended k) (eqb b 10)
     where
       step : ((k : S) (h : List ℕ) → P k → runs ended onLine (take room) (record { known = k; have = take room h }) s ≡ shortAt room (runs ended onLine whole (record { known = k; have = h }) s))
           → (e n : Bool)
-          → runs ended onLine (take room) (choose e (record { known = k; have = take room have }) (choose n (record { known = onLine k (take room have); have = [] }) (record { known = k; have = take room (take room have ++ (b ∷ [])) }))) s
-          ≡ shortAt room (runs ended onLine whole (choose e (record { known = k; have = have }) (choose n (record { known = onLine k have; have = [] }) (record { known = k; have = have ++ (b ∷ []) }))) s)
+          → runs ended onLine (take room) (cond e (record { known = k; have = take room have }) (cond n (record { known = onLine k (take room have); have = [] }) (record { known = k; have = take room (take room have ++ (b ∷ [])) }))) s
+          ≡ shortAt room (runs ended onLine whole (cond e (record { known = k; have = have }) (cond n (record { known = onLine k have; have = [] }) (record { known = k; have = have ++ (b ∷ []) }))) s)
       step on true n = on k have p
       step on false true =
           rw (blind k have p)
@@ -101,35 +97,35 @@ module _ {S : Type 0} (ended : S → Bool) (onLine : S → List ℕ → S) where
       step on false false = rw (kept-on room have (b ∷ [])) (on k (have ++ (b ∷ [])) p)
 
   reads-stays : (k : S) (ls : List (List ℕ)) → ended k ≡ true → reads ended onLine k ls ≡ k
-  unfolding reads choose
+  unfolding reads
   reads-stays k [] e = refl
   reads-stays k (l ∷ ls) e = rw e
 
   -- The machine over a whole text: its lines one after the other, and the bytes after the last newline are kept
   pub by-text : (k : S) (have s : List ℕ) → runs ended onLine whole (record { known = k; have = have }) s .known ≡ reads ended onLine k (splitFrom have s .lines)
-  unfolding runs byte choose splitFrom reads
+  unfolding runs byte splitFrom reads
   by-text k have [] = refl
   by-text k have (b ∷ s) = step (λ k h. by-text k h s) (ended k) (eqb b 10) refl
     where
       step : ((k : S) (h : List ℕ) → runs ended onLine whole (record { known = k; have = h }) s .known ≡ reads ended onLine k (splitFrom h s .lines)) → (e n : Bool) → ended k ≡ e
-          → runs ended onLine whole (choose e (record { known = k; have = have }) (choose n (record { known = onLine k have; have = [] }) (record { known = k; have = have ++ (b ∷ []) }))) s .known
-          ≡ reads ended onLine k (choose n (behind have (splitFrom [] s)) (splitFrom (have ++ (b ∷ [])) s) .lines)
+          → runs ended onLine whole (cond e (record { known = k; have = have }) (cond n (record { known = onLine k have; have = [] }) (record { known = k; have = have ++ (b ∷ []) }))) s .known
+          ≡ reads ended onLine k (cond n (behind have (splitFrom [] s)) (splitFrom (have ++ (b ∷ [])) s) .lines)
       step on true n q =
           ap (λ (a : At S). a .known) (stays whole (record { known = k; have = have }) s q)
-          ∙ sym (reads-stays k (choose n (behind have (splitFrom [] s)) (splitFrom (have ++ (b ∷ [])) s) .lines) q)
+          ∙ sym (reads-stays k (cond n (behind have (splitFrom [] s)) (splitFrom (have ++ (b ∷ [])) s) .lines) q)
       step on false true q = rw q (on (onLine k have) [])
       step on false false q = on k (have ++ (b ∷ []))
 
   pub by-rest : (k : S) (have s : List ℕ) → ended (reads ended onLine k (splitFrom have s .lines)) ≡ false → runs ended onLine whole (record { known = k; have = have }) s .have ≡ splitFrom have s .rest
-  unfolding runs byte choose splitFrom reads
+  unfolding runs byte splitFrom reads
   by-rest k have [] e = refl
   by-rest k have (b ∷ s) e = step (λ k h e. by-rest k h s e) (ended k) (eqb b 10) refl e
     where
-      step : ((k : S) (h : List ℕ) → ended (reads ended onLine k (splitFrom h s .lines)) ≡ false → runs ended onLine whole (record { known = k; have = h }) s .have ≡ splitFrom h s .rest) → (e n : Bool) → ended k ≡ e → ended (reads ended onLine k (choose n (behind have (splitFrom [] s)) (splitFrom (have ++ (b ∷ [])) s) .lines)) ≡ false
-          → runs ended onLine whole (choose e (record { known = k; have = have }) (choose n (record { known = onLine k have; have = [] }) (record { known = k; have = have ++ (b ∷ []) }))) s .have
-          ≡ choose n (behind have (splitFrom [] s)) (splitFrom (have ++ (b ∷ [])) s) .rest
+      step : ((k : S) (h : List ℕ) → ended (reads ended onLine k (splitFrom h s .lines)) ≡ false → runs ended onLine whole (record { known = k; have = h }) s .have ≡ splitFrom h s .rest) → (e n : Bool) → ended k ≡ e → ended (reads ended onLine k (cond n (behind have (splitFrom [] s)) (splitFrom (have ++ (b ∷ [])) s) .lines)) ≡ false
+          → runs ended onLine whole (cond e (record { known = k; have = have }) (cond n (record { known = onLine k have; have = [] }) (record { known = k; have = have ++ (b ∷ []) }))) s .have
+          ≡ cond n (behind have (splitFrom [] s)) (splitFrom (have ++ (b ∷ [])) s) .rest
       step on true n q f =
-          let z : true ≡ false = sym (ap ended (reads-stays k (choose n (behind have (splitFrom [] s)) (splitFrom (have ++ (b ∷ [])) s) .lines) q) ∙ q) ∙ f in
+          let z : true ≡ false = sym (ap ended (reads-stays k (cond n (behind have (splitFrom [] s)) (splitFrom (have ++ (b ∷ [])) s) .lines) q) ∙ q) ∙ f in
           absurd (subst T z tt)
       step on false true q f = on (onLine k have) [] (rw q at f)
       step on false false q f = on k (have ++ (b ∷ [])) f

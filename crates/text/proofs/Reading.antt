@@ -7,27 +7,27 @@ use native.Mathlib.Nat.{pow-suc, one-le-pow, pow-le-pow-right, mul-le-mul-right,
 use native.Mathlib.Numerals.{add-one}
 use native.Mathlib.Omega.{arith}
 use lib.Dec.{T, eqb, eqb-refl, leb, ltb, lit<}
-use lib.ListN.{length, getD, take, drop, set, take-append-drop, drop-of-length-le, length-drop}
+use lib.ListN.{length, getD, take, drop, set, drop-of-length-le, length-drop}
 use lib.Seq.{drop-cons, length-take-le}
 use lib.Ieee.{Float}
 use lib.Ieee.Bits.{is-true}
 use borrow.Author.Tests.{lt-ltb, le-ltb, eq-eqb, ne-eqb, le-leb, lt-leb, leb-true, eqb-true, eqb-false}
 use Rattle.floats.proofs.Cross.{and-left, and-right}
-use Rattle.lists.specs.Over.{over, upto}
-use Rattle.lists.proofs.Laws.{over-nil, upto-more}
+use Rattle.lists.specs.Over.{over, into, upto}
+use Rattle.lists.proofs.Laws.{upto-more}
 use Rattle.text.specs.declared.Num.{Num}
 use Rattle.text.specs.declared.Num.the-variants.{Is, Bad}
-use Rattle.text.specs.Values.{goodAt, valuesOk, allBelow, into}
-use Rattle.text.specs.Number.{hexOf, countOf, pickNum, digitOf, numFrom, begins, atMost}
+use Rattle.text.specs.Values.{goodAt, valuesOk, allBelow}
+use Rattle.text.specs.Number.{hexOf, countOf, digitOf, numFrom, begins, atMost}
 
 -- ---- digits
 
 pub num-on : (b v i : ℕ) (s : List ℕ) → i < length s → digitOf (getD s i 0) < b → numFrom b v (drop i s) ≡ numFrom b (v * b + digitOf (getD s i 0)) (drop (i + 1) s)
-unfolding numFrom pickNum
+unfolding numFrom
 num-on b v i s h e = rw (drop-cons s i 0, lt-ltb _ _ e) (ap (λ (j : ℕ). numFrom b (v * b + digitOf (getD s i 0)) (drop j s)) (sym (add-one i)))
 
 pub num-bad : (b v i : ℕ) (s : List ℕ) → i < length s → b ≤ digitOf (getD s i 0) → numFrom b v (drop i s) ≡ Bad
-unfolding numFrom pickNum
+unfolding numFrom
 num-bad b v i s h e = rw (drop-cons s i 0, le-ltb _ _ e)
 
 pub num-end : (b v i : ℕ) (s : List ℕ) → length s ≤ i → numFrom b v (drop i s) ≡ Is v
@@ -42,15 +42,15 @@ pub small : (i : ℕ) → i ≤ 8 → 16 ^ i ≤ 4294967296
 small i h = pow-le-pow-right {n = 16} (lit< tt) h
 
 pub under : (k v : ℕ) → v ≤ k → atMost k (Is v) ≡ Is v
-unfolding atMost pickNum
+unfolding atMost
 under k v h = rw (le-leb _ _ h)
 
 above : (k v : ℕ) → k < v → atMost k (Is v) ≡ Bad
-unfolding atMost pickNum
+unfolding atMost
 above k v h = rw (lt-leb _ _ h)
 
-either : (k : ℕ) (b : Bool) (x : Num) → atMost k x ≡ Bad → atMost k (pickNum b x Bad) ≡ Bad
-unfolding atMost pickNum
+either : (k : ℕ) (b : Bool) (x : Num) → atMost k x ≡ Bad → atMost k (cond b x Bad) ≡ Bad
+unfolding atMost
 either k true x e = e
 either k false x e = refl
 
@@ -86,7 +86,7 @@ nonzero b e = go (leb 48 b && leb b 57) (leb 97 b && leb b 102) refl refl
 
 -- a decimal with more digits than its limit is malformed, however long it is
 pub long-count : (k i : ℕ) (s : List ℕ) → k < 10 ^ suc i → suc i < length s → countOf k s ≡ Bad
-unfolding countOf pickNum numFrom
+unfolding countOf numFrom
 long-count k i [] h g = absurd (omega arith)
 long-count k i (b ∷ []) h g = absurd (omega arith)
 long-count k i (b ∷ c ∷ s) h g =
@@ -98,20 +98,20 @@ long-count k i (b ∷ c ∷ s) h g =
         let q : 1 * 10 ^ length (c ∷ s) ≤ digitOf b * 10 ^ length (c ∷ s) = mul-le-mul-right (10 ^ length (c ∷ s)) (nonzero b n) in
         omega arith
 
-    by : (z : Bool) → eqb b 48 ≡ z → pickNum (z && true) Bad (atMost k (pickNum (ltb (digitOf b) 10) (numFrom 10 (0 * 10 + digitOf b) (c ∷ s)) Bad)) ≡ Bad
+    by : (z : Bool) → eqb b 48 ≡ z → cond (z && true) Bad (atMost k (cond (ltb (digitOf b) 10) (numFrom 10 (0 * 10 + digitOf b) (c ∷ s)) Bad)) ≡ Bad
     by true e = refl
     by false e = either k (ltb (digitOf b) 10) (numFrom 10 (0 * 10 + digitOf b) (c ∷ s)) (rw (zero-mul, zero-add) (grows k (digitOf b) (c ∷ s) (big (eqb-false b 48 e))))
 
 -- what a decimal says is at most its limit
 pub count-within : (k v : ℕ) (s : List ℕ) → countOf k s ≡ Is v → v ≤ k
-unfolding countOf pickNum atMost
+unfolding countOf atMost
 count-within k v s e = by (eqb (length s) 0 || (eqb (getD s 0 0) 48 && not (eqb (length s) 1))) (numFrom 10 0 s) e
   where
-    most : (w : ℕ) (t : Bool) → leb w k ≡ t → pickNum t (Is w) Bad ≡ Is v → v ≤ k
+    most : (w : ℕ) (t : Bool) → leb w k ≡ t → cond t (Is w) Bad ≡ Is v → v ≤ k
     most w true f e = let g : w ≡ v = cc in omega (arith, leb-true w k f)
     most w false f e = let z : _≡_ {A = ℕ} 0 1 = cc in omega arith
 
-    by : (t : Bool) (x : Num) → pickNum t Bad (atMost k x) ≡ Is v → v ≤ k
+    by : (t : Bool) (x : Num) → cond t Bad (atMost k x) ≡ Is v → v ≤ k
     by true x e = let z : _≡_ {A = ℕ} 0 1 = cc in omega arith
     by false Bad e = let z : _≡_ {A = ℕ} 0 1 = cc in omega arith
     by false (Is w) e = most w (leb w k) refl e
@@ -197,10 +197,6 @@ pub no-room : (b : Bool) (x y : ℕ) → y < x → false ≡ b && leb x y
 no-room b x y h = rw (lt-leb x y h) (sym (and-false b))
 
 -- ---- a store past the front of a list
-
-pub into-none : (at : ℕ) (d : List Float) → d ≡ into at [] d
-unfolding into
-into-none at d = rw over-nil (sym (take-append-drop at d))
 
 set-past : (p q : List Float) (n : ℕ) (a : Float) → set (p ++ q) (length p + n) a ≡ p ++ set q n a
 set-past [] q n a = rw (zero-add n)

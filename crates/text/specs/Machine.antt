@@ -1,7 +1,7 @@
 -- A machine that reads a text byte by byte, and that a program runs line by line and chunk by chunk. S is what it knows between lines: what was
 -- printed so far may be a part of it. Definitions only.
 use Prim.Native.Nat.{ℕ}
-use mathlib.Core.Bool.{Bool, true, false}
+use mathlib.Core.Bool.{Bool, cond}
 use mathlib.Core.List.{List, [], _∷_, _++_}
 use lib.Dec.{eqb}
 use lib.ListN.{take}
@@ -11,10 +11,6 @@ use Rattle.text.specs.Lines.{Part, line, more}
 pub record At (S : Type 0) : Type 0 where
   pub known : S
   pub have : List ℕ
-
-unfoldable pub choose : {A : Type 0} → Bool → A → A → A
-choose true a b = a
-choose false a b = b
 
 -- a text by its lines: those that end in a newline, and the bytes after the last newline
 pub record Split : Type 0 where
@@ -26,7 +22,7 @@ behind l s = record { lines = l ∷ s .lines; rest = s .rest }
 
 unfoldable pub splitFrom : List ℕ → List ℕ → Split
 splitFrom have [] = record { lines = []; rest = have }
-splitFrom have (b ∷ bs) = choose (eqb b 10) (behind have (splitFrom [] bs)) (splitFrom (have ++ (b ∷ [])) bs)
+splitFrom have (b ∷ bs) = cond (eqb b 10) (behind have (splitFrom [] bs)) (splitFrom (have ++ (b ∷ [])) bs)
 
 abbrev pub split : List ℕ → Split
 split text = splitFrom [] text
@@ -35,13 +31,13 @@ module _ {S : Type 0} (ended : S → Bool) (onLine : S → List ℕ → S) where
   -- one line after the other, until the machine has ended
   unfoldable pub reads : S → List (List ℕ) → S
   reads k [] = k
-  reads k (l ∷ ls) = choose (ended k) k (reads (onLine k l) ls)
+  reads k (l ∷ ls) = cond (ended k) k (reads (onLine k l) ls)
 
   module _ (keep : List ℕ → List ℕ) where
     unfoldable pub byte : At S → ℕ → At S
     byte a b =
-        choose (ended (a .known)) a
-        (choose (eqb b 10) (record { known = onLine (a .known) (a .have); have = [] }) (record { known = a .known; have = keep (a .have ++ (b ∷ [])) }))
+        cond (ended (a .known)) a
+        (cond (eqb b 10) (record { known = onLine (a .known) (a .have); have = [] }) (record { known = a .known; have = keep (a .have ++ (b ∷ [])) }))
 
     -- the bytes of a chunk
     unfoldable pub runs : At S → List ℕ → At S

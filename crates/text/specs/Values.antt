@@ -2,12 +2,12 @@
 -- Every NaN pattern is the one value `nan`, and `nan` is printed as 7fc00000: lib.Ieee's own `ofBits` and `toBits`.
 use Prim.Native.Nat.{ℕ, zero, suc, _+_, _*_}
 use mathlib.Core.Bool.{Bool, true, false, cond, _&&_, _||_}
-use mathlib.Core.List.{List, _++_}
+use mathlib.Core.List.{List}
 use lib.Dec.{eqb}
 use lib.ListN.{length, getD, take, drop}
 use lib.Ieee.{Float, ofBits, toBits, binary32}
 use Rattle.floats.specs.Floats.{zero32}
-use Rattle.lists.specs.Over.{over, upto}
+use Rattle.lists.specs.Over.{into, upto}
 use Rattle.text.specs.declared.Num.{Num}
 use Rattle.text.specs.declared.Num.the-variants.{Is, Bad}
 use Rattle.text.specs.Number.{hexOf}
@@ -42,10 +42,6 @@ goodAt s n k = isNum (hexOf (take 8 (drop (9 * k) s))) && (eqb (k + 1) n || eqb 
 -- exactly n values; none at all is the empty line
 unfoldable pub valuesOk : List ℕ → ℕ → Bool
 valuesOk s n = cond (eqb n 0) (eqb (length s) 0) (eqb (length s + 1) (9 * n) && allBelow (goodAt s n) n)
-
--- d, with xs written from place `at` on
-unfoldable pub into : ℕ → List Float → List Float → List Float
-into at xs d = take at d ++ over xs (drop at d)
 
 -- the list after n values went to place `at`: all of them, or untouched
 unfoldable pub stored : Bool → List ℕ → ℕ → ℕ → List Float → List Float

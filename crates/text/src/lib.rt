@@ -155,7 +155,8 @@ pub fn put_decimal(x: usize, out: &mut [u8]) -> usize
 
 // Whether value k of n is well formed, with the comma after it.
 fn good_at(s: &[u8], n: usize, k: usize) -> bool
-    requires { ⌜ (k < n) × (length (now s) + 1 ≡ 9 * n) ⌝ }
+    requires { ⌜ (k < n)
+        × (length (now s) + 1 ≡ 9 * n) ⌝ }
     ensures { λ r. ⌜ r ≡ goodAt (now (s .entry)) n k ⌝ }
 {
     let a = 9 * k;
@@ -253,7 +254,8 @@ fn keep(buf: &mut [u8], used: usize, b: u8) -> usize
 
 // The next line of the chunk from a place on, where `used` bytes of it are in the buffer already.
 pub fn next_line(chunk: &[u8], from: usize, buf: &mut [u8], used: usize) -> Cut
-    requires { ⌜ (from ≤ length (now chunk)) × (used ≤ length (now buf)) ⌝ }
+    requires { ⌜ (from ≤ length (now chunk))
+        × (used ≤ length (now buf)) ⌝ }
     ensures { λ r. ⌜ CutSays (now (chunk .entry)) (now (buf .entry)) from used r (now (buf .exit)) ⌝ }
 {
     let mut i = from;

@@ -10,9 +10,9 @@ use Rattle.blocks.proofs.Into.{then, room-left, room-right}
 use Rattle.blocks.proofs.filter_block.Statement.{statement}
 use Rattle.blocks.proofs.filter_block.Tie as tie
 
-head-requires : tie.Need-head-requires
+head-lines-requires : tie.Need-head-lines-requires
 unfolding filterText bytes
-head-requires c κs =
+head-lines-requires c κs =
     let s = c .before .before .before .before .before in
     let d = now (s .args .out) in
     let at : ℕ = 0 in
@@ -35,7 +35,7 @@ values-line-requires c κs =
     let r3 = room-left at (headText (now (s .args .answer)) (s .args .nearest) (s .args .points) ++ valuesLine (bytes "left=") (now (s .args .left)) ++ valuesLine (bytes "right=") (now (s .args .right))) (delaysText (s .args .ldelay) (s .args .rdelay)) d r4 in
     let r2 = room-left at (headText (now (s .args .answer)) (s .args .nearest) (s .args .points) ++ valuesLine (bytes "left=") (now (s .args .left))) (valuesLine (bytes "right=") (now (s .args .right))) d r3 in
     let r1 = room-left at (headText (now (s .args .answer)) (s .args .nearest) (s .args .points)) (valuesLine (bytes "left=") (now (s .args .left))) d r2 in
-    let p1 = c .before .before .before .before .head in
+    let p1 = c .before .before .before .before .head-lines in
     let e1 = p1 .last .1 .1 .1 .0 in
     let w1 = p1 .ensures in
     room-right at (p1 .result) (headText (now (s .args .answer)) (s .args .nearest) (s .args .points)) (valuesLine (bytes "left=") (now (s .args .left))) d e1 r2 w1
@@ -53,7 +53,7 @@ values-line-requires-2 c κs =
     let r3 = room-left at (headText (now (s .args .answer)) (s .args .nearest) (s .args .points) ++ valuesLine (bytes "left=") (now (s .args .left)) ++ valuesLine (bytes "right=") (now (s .args .right))) (delaysText (s .args .ldelay) (s .args .rdelay)) d r4 in
     let r2 = room-left at (headText (now (s .args .answer)) (s .args .nearest) (s .args .points) ++ valuesLine (bytes "left=") (now (s .args .left))) (valuesLine (bytes "right=") (now (s .args .right))) d r3 in
     let r1 = room-left at (headText (now (s .args .answer)) (s .args .nearest) (s .args .points)) (valuesLine (bytes "left=") (now (s .args .left))) d r2 in
-    let p1 = c .before .before .before .before .before .before .before .before .before .head in
+    let p1 = c .before .before .before .before .before .before .before .before .before .head-lines in
     let e1 = p1 .last .1 .1 .1 .0 in
     let w1 = p1 .ensures in
     let p2 = c .before .before .before .before .values-line in
@@ -71,7 +71,7 @@ both-delays-requires c κs =
     let r3 = room-left at (headText (now (s .args .answer)) (s .args .nearest) (s .args .points) ++ valuesLine (bytes "left=") (now (s .args .left)) ++ valuesLine (bytes "right=") (now (s .args .right))) (delaysText (s .args .ldelay) (s .args .rdelay)) d r4 in
     let r2 = room-left at (headText (now (s .args .answer)) (s .args .nearest) (s .args .points) ++ valuesLine (bytes "left=") (now (s .args .left))) (valuesLine (bytes "right=") (now (s .args .right))) d r3 in
     let r1 = room-left at (headText (now (s .args .answer)) (s .args .nearest) (s .args .points)) (valuesLine (bytes "left=") (now (s .args .left))) d r2 in
-    let p1 = c .before .before .before .before .before .before .before .before .before .before .before .before .before .head in
+    let p1 = c .before .before .before .before .before .before .before .before .before .before .before .before .before .head-lines in
     let e1 = p1 .last .1 .1 .1 .0 in
     let w1 = p1 .ensures in
     let p2 = c .before .before .before .before .before .before .before .before .values-line in
@@ -83,7 +83,7 @@ both-delays-requires c κs =
     room-right at (p3 .result) (headText (now (s .args .answer)) (s .args .nearest) (s .args .points) ++ valuesLine (bytes "left=") (now (s .args .left)) ++ valuesLine (bytes "right=") (now (s .args .right))) (delaysText (s .args .ldelay) (s .args .rdelay)) d e3 r4 w3
 
 same-length : tie.Need-same-length
-same-length c = c .before .before .both-delays .kept .1 .1 .0 ∙ c .before .before .before .before .before .before .values-line2 .kept .1 .1 .0 ∙ c .before .before .before .before .before .before .before .before .before .before .before .values-line .kept .1 .1 .0 ∙ c .before .before .before .before .before .before .before .before .before .before .before .before .before .before .before .before .head .kept .1 .1 .1 .0
+same-length c = c .before .before .both-delays .kept .1 .1 .0 ∙ c .before .before .before .before .before .before .values-line2 .kept .1 .1 .0 ∙ c .before .before .before .before .before .before .before .before .before .before .before .values-line .kept .1 .1 .0 ∙ c .before .before .before .before .before .before .before .before .before .before .before .before .before .before .before .before .head-lines .kept .1 .1 .1 .0
 
 returns : tie.Need-returns
 unfolding filterText bytes
@@ -95,7 +95,7 @@ returns c =
     let r3 = room-left at (headText (now (s .args .answer)) (s .args .nearest) (s .args .points) ++ valuesLine (bytes "left=") (now (s .args .left)) ++ valuesLine (bytes "right=") (now (s .args .right))) (delaysText (s .args .ldelay) (s .args .rdelay)) d r4 in
     let r2 = room-left at (headText (now (s .args .answer)) (s .args .nearest) (s .args .points) ++ valuesLine (bytes "left=") (now (s .args .left))) (valuesLine (bytes "right=") (now (s .args .right))) d r3 in
     let r1 = room-left at (headText (now (s .args .answer)) (s .args .nearest) (s .args .points)) (valuesLine (bytes "left=") (now (s .args .left))) d r2 in
-    let p1 = c .before .before .before .before .before .before .before .before .before .before .before .before .before .before .before .before .head in
+    let p1 = c .before .before .before .before .before .before .before .before .before .before .before .before .before .before .before .before .head-lines in
     let e1 = p1 .last .1 .1 .1 .0 in
     let w1 = p1 .ensures in
     let p2 = c .before .before .before .before .before .before .before .before .before .before .before .values-line in
@@ -113,7 +113,7 @@ pub filter-block-spec : {M : Type 1} → statement M
 filter-block-spec =
     tie.close
     (tie.spec
-    head-requires
+    head-lines-requires
     slice-aggregate-values-line
     values-line-requires
     slice-aggregate-values-line-2

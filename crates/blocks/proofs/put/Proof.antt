@@ -6,8 +6,10 @@ use native.Mathlib.Omega.{arith}
 use lib.ListN.{length, take}
 use lib.Seq.{take-all}
 use denote.Ref.{now}
-use Rattle.blocks.specs.Put.{into, FitsAt, Wrote}
-use Rattle.blocks.proofs.Into.{into-nil, copied}
+use Rattle.lists.specs.Over.{into}
+use Rattle.lists.proofs.Laws.{into-nil}
+use Rattle.blocks.specs.Put.{FitsAt, Wrote}
+use Rattle.blocks.proofs.Into.{copied}
 use borrow.Author.Needs.{needs}
 use Rattle.blocks.proofs.put.Statement.{statement}
 use Rattle.blocks.proofs.put.Tie as tie

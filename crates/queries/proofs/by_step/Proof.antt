@@ -3,12 +3,12 @@ use native.Mathlib.Nat.{le-trans}
 use native.Mathlib.Omega.{arith}
 use mathlib.Core.Path.{refl, sym, ap, subst, _∙_}
 use denote.Ref.{now}
-use Rattle.setread.specs.Kept.{Reached}
+use Rattle.settext_laws.specs.Kept.{Reached, Few}
 use Rattle.loads.specs.Load.{workOf}
 use Rattle.blocks.proofs.Rooms.{error-room}
 use Rattle.settext.specs.declared.Step.{Step}
-use Rattle.queries.specs.Program.{textLists, Ears, earsOf, stepEars}
-use Rattle.queries.specs.Sound.{Few}
+use Rattle.settext.specs.Lines.{textLists}
+use Rattle.queries.specs.Program.{Ears, earsOf, stepEars}
 use Rattle.queries.proofs.Turns.{points-in, refusal-in, block-in, nothing, put, says, step-next, step-complete, step-query, step-bad}
 use borrow.Author.Needs.{needs}
 use Rattle.queries.proofs.by_step.Statement.{statement}

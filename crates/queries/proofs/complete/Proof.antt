@@ -2,7 +2,7 @@
 use native.Mathlib.Omega.{arith}
 use mathlib.Core.Path.{_∙_}
 use native.Mathlib.Nat.{zero-add}
-use Rattle.blocks.specs.Put.{into}
+use Rattle.lists.specs.Over.{into}
 use Rattle.blocks.proofs.Rooms.{refused-room}
 use Rattle.queries.proofs.Turns.{nothing, put, says, load-ready, load-refused}
 use borrow.Author.Needs.{needs}

@@ -14,8 +14,8 @@ enum-known-f-2 c = search needs
 enum-told : tie.Need-enum-told
 enum-told c = search needs
 
-start-requires : tie.Need-start-requires
-start-requires c κs = search needs
+begin-requires : tie.Need-begin-requires
+begin-requires c κs = search needs
 
 returns : tie.Need-returns
 returns c = search needs
@@ -29,4 +29,4 @@ returns-3 c = search needs
 pub state-in-spec : {M : Type 1} → statement M
 state-in-spec =
     tie.close
-    (tie.spec enum-known-f enum-known-f-2 enum-told start-requires returns returns-2 returns-3)
+    (tie.spec enum-known-f enum-known-f-2 enum-told begin-requires returns returns-2 returns-3)

@@ -2,7 +2,8 @@
 use mathlib.Core.Path.{ap, _∙_}
 use denote.Ref.{now}
 use Rattle.loads.specs.Load.{workOf}
-use Rattle.queries.specs.Program.{Turn, textLists}
+use Rattle.settext.specs.Lines.{textLists}
+use Rattle.queries.specs.Program.{Turn}
 use Rattle.queries.proofs.Turns.{of-kept, renamed, line-few, line-turn, line-ears-of}
 use Rattle.queries.proofs.take_line.Statement.{statement}
 use Rattle.queries.proofs.take_line.Tie as tie

@@ -3,15 +3,16 @@ use native.Mathlib.Omega.{arith}
 use mathlib.Core.Path.{sym, ap, subst, _∙_}
 use mathlib.Core.List.{[]}
 use lib.Dec.{lit≤}
-use lib.ListN.{take, drop}
+use lib.ListN.{length, take, drop}
 use lib.Seq.{length-take-le}
 use denote.Ref.{now}
 use Rattle.loads.specs.Load.{workOf}
-use Rattle.queries.specs.Program.{Session, session, textLists, earsOf}
+use Rattle.settext.specs.Lines.{textLists}
+use Rattle.queries.specs.Program.{Session, session, earsOf}
 use Rattle.queries.specs.Sound.{SoundPhase}
 use Rattle.queries.specs.Machine.{betweenBytes, Advance}
 use Rattle.queries.proofs.Keeps.{turn-sound}
-use Rattle.queries.proofs.Turns.{used-in, nothing, renamed, silent-ears, all-over, found-line, found-more, a-line, line-ears, no-line, more-ears}
+use Rattle.queries.proofs.Turns.{used-in, nothing, renamed, silent-ears, silent-buf, buf-by, all-over, found-line, found-more, a-line, line-ears, no-line, more-ears}
 use borrow.Author.Needs.{needs}
 use Rattle.queries.proofs.turn.Statement.{statement}
 use Rattle.queries.proofs.turn.Tie as tie
@@ -33,6 +34,7 @@ returns c =
       left = ap (λ (v : Advance). v .left) v;
       printed = renamed (ap (λ (v : Advance). v .printed) v) (nothing (now (a .out)));
       ears = silent-ears 40000 (betweenBytes k (take (a .t .used) (now (a .buf)))) (drop (a .at) (now (a .chunk))) _ o;
+      buffer = silent-buf 40000 (betweenBytes k (take (a .t .used) (now (a .buf)))) (drop (a .at) (now (a .chunk))) _ o;
       sound = s .pre .1;
       next = omega arith;
       moves = λ h. h;
@@ -116,6 +118,7 @@ returns-2 c =
       left = ap (λ (v : Advance). v .left) v;
       printed = renamed (ap (λ (v : Advance). v .printed) v) (t .turn .printed);
       ears = t .ears ∙ (rw (s .pre .2) at (line-ears (now (a .buf)) (n .last .1 .1 .0) (now (a .chunk)) k (a .at) (a .t .used) (n .result) (sym (c .before .before .before .before .before .before .before .before .before .before .before .before .before .before .before .before .before .before .before .before .before .before .before .before .before .before .before .before .before .before .before .before .before .before .before .before .before .before .before .before .is-over .ensures) ∙ c .before .before .before .before .before .before .before .before .before .before .before .before .before .before .before .before .before .before .before .before .before .before .before .before .before .before .before .before .before .before .before .before .before .before .before .before .before .before .before .if1 .left) (n .ensures .same) (g .0 .0) (g .0 .1 .0) (g .1) (earsOf (now (a .out-left)) (now (a .out-right)))));
+      buffer = rw (s .pre .2) at (buf-by (length (now (a .buf))) (betweenBytes k (take (a .t .used) (now (a .buf)))) (drop (a .at) (now (a .chunk))) (now (a .buf)) (n .last .1 .1 .0) (sym (c .before .before .before .before .before .before .before .before .before .before .before .before .before .before .before .before .before .before .before .before .before .before .before .before .before .before .before .before .before .before .before .before .before .before .before .before .before .before .before .before .is-over .ensures) ∙ c .before .before .before .before .before .before .before .before .before .before .before .before .before .before .before .before .before .before .before .before .before .before .before .before .before .before .before .before .before .before .before .before .before .before .before .before .before .before .before .if1 .left) (n .ensures .buffer));
       sound = record { limits = subst SoundPhase (sym (ap (λ (k : Session). k .phase) (t .turn .session))) (turn-sound k (take (g .0 .1 .0) (n .last .1 .1 .0)) (s .pre .1 .limits)); used = lit≤ tt };
       next = f .2;
       moves = λ h. f .1;
@@ -140,6 +143,7 @@ returns-3 c =
       left = ap (λ (v : Advance). v .left) v;
       printed = renamed (ap (λ (v : Advance). v .printed) v) (nothing (now (a .out)));
       ears = rw (s .pre .2) at (more-ears (now (a .buf)) (n .last .1 .1 .0) (now (a .chunk)) k (a .at) (a .t .used) (n .result) (sym (c .before .before .before .before .before .before .before .before .is-over .ensures) ∙ c .before .before .before .before .before .before .before .if1 .left) (n .ensures .same) (g .0 .0) (g .1) (earsOf (now (a .out-left)) (now (a .out-right))));
+      buffer = rw (s .pre .2) at (buf-by (length (now (a .buf))) (betweenBytes k (take (a .t .used) (now (a .buf)))) (drop (a .at) (now (a .chunk))) (now (a .buf)) (n .last .1 .1 .0) (sym (c .before .before .before .before .before .before .before .before .is-over .ensures) ∙ c .before .before .before .before .before .before .before .if1 .left) (n .ensures .buffer));
       sound = record { limits = s .pre .1 .limits; used = omega (arith, f, s .pre .2) };
       next = omega arith;
       moves = λ h. h;

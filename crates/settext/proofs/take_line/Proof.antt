@@ -3,7 +3,8 @@ use mathlib.Core.Path.{refl, sym, _∙_}
 use mir.Facts.{fits-16-64}
 use denote.Ref.{now}
 use Rattle.text.specs.Words.{bytes}
-use Rattle.settext.proofs.Laws.{pos-fits, product-fits, ir-fits, listed, same, a-key, a-pos, an-ir, a-delay, a-query}
+use Rattle.settext.specs.Lines.{textLists}
+use Rattle.settext.proofs.Laws.{pos-fits, product-fits, ir-fits, same, a-key, a-pos, an-ir, a-delay, a-query}
 use Rattle.settext.proofs.take_line.Statement.{statement}
 use Rattle.settext.proofs.take_line.Tie as tie
 
@@ -14,7 +15,7 @@ returns : tie.Need-returns
 unfolding bytes
 returns c =
     let a = c .before .before .before .before .before .before .args in
-    same (c .key-line .ensures) refl refl refl ∙ sym (a-key (a .s) (now (a .line)) (listed (now (a .positions)) (now (a .responses)) (now (a .delays))) (c .before .if1 .taken))
+    same (c .key-line .ensures) refl refl refl ∙ sym (a-key (a .s) (now (a .line)) (textLists (now (a .positions)) (now (a .responses)) (now (a .delays))) (c .before .if1 .taken))
 
 cast-m : tie.Need-cast-m
 cast-m c = fits-16-64 (c .struct-known .given .1 .1 .0)
@@ -35,7 +36,7 @@ returns-2 : tie.Need-returns-2
 unfolding bytes
 returns-2 c =
     let a = c .before .before .before .before .before .before .before .before .before .before .before .before .args in
-    same (c .before .before .values-line .ensures .0) (c .before .before .values-line .ensures .1) refl refl ∙ sym (a-pos (a .s) (now (a .line)) (listed (now (a .positions)) (now (a .responses)) (now (a .delays))) (c .before .before .before .before .before .before .before .if1 .left) (c .before .before .before .before .before .if2 .taken))
+    same (c .before .before .values-line .ensures .0) (c .before .before .values-line .ensures .1) refl refl ∙ sym (a-pos (a .s) (now (a .line)) (textLists (now (a .positions)) (now (a .responses)) (now (a .delays))) (c .before .before .before .before .before .before .before .if1 .left) (c .before .before .before .before .before .if2 .taken))
 
 cast-mr : tie.Need-cast-mr
 cast-mr c = fits-16-64 (c .struct-known2 .given .1 .1 .1 .0)
@@ -65,7 +66,7 @@ returns-3 : tie.Need-returns-3
 unfolding bytes
 returns-3 c =
     let a = c .before .before .before .before .before .before .before .before .before .before .before .before .before .before .before .args in
-    same (c .before .before .values-line2 .ensures .0) refl (c .before .before .values-line2 .ensures .1) refl ∙ sym (an-ir (a .s) (now (a .line)) (listed (now (a .positions)) (now (a .responses)) (now (a .delays))) (c .before .before .before .before .before .before .before .before .before .before .if1 .left) (c .before .before .before .before .before .before .before .before .if2 .left) (c .before .before .before .before .before .before .if3 .taken))
+    same (c .before .before .values-line2 .ensures .0) refl (c .before .before .values-line2 .ensures .1) refl ∙ sym (an-ir (a .s) (now (a .line)) (textLists (now (a .positions)) (now (a .responses)) (now (a .delays))) (c .before .before .before .before .before .before .before .before .before .before .if1 .left) (c .before .before .before .before .before .before .before .before .if2 .left) (c .before .before .before .before .before .before .if3 .taken))
 
 cast-if4 : tie.Need-cast-if4
 cast-if4 c = fits-16-64 (c .struct-known4 .given .1 .1 .1 .1 .1 .0)
@@ -83,7 +84,7 @@ returns-4 : tie.Need-returns-4
 unfolding bytes
 returns-4 c =
     let a = c .before .before .before .before .before .before .before .before .before .before .before .before .before .before .before .before .args in
-    same (c .before .before .values-line3 .ensures .0) refl refl (c .before .before .values-line3 .ensures .1) ∙ sym (a-delay (a .s) (now (a .line)) (listed (now (a .positions)) (now (a .responses)) (now (a .delays))) (c .before .before .before .before .before .before .before .before .before .before .before .if1 .left) (c .before .before .before .before .before .before .before .before .before .if2 .left) (c .before .before .before .before .before .before .before .if3 .left) (c .before .before .before .before .before .if4 .taken))
+    same (c .before .before .values-line3 .ensures .0) refl refl (c .before .before .values-line3 .ensures .1) ∙ sym (a-delay (a .s) (now (a .line)) (textLists (now (a .positions)) (now (a .responses)) (now (a .delays))) (c .before .before .before .before .before .before .before .before .before .before .before .if1 .left) (c .before .before .before .before .before .before .before .before .before .if2 .left) (c .before .before .before .before .before .before .before .if3 .left) (c .before .before .before .before .before .if4 .taken))
 
 query-line-requires : tie.Need-query-line-requires
 query-line-requires c κs = tt
@@ -92,7 +93,7 @@ returns-5 : tie.Need-returns-5
 unfolding bytes
 returns-5 c =
     let a = c .before .before .before .before .before .before .before .before .before .before .before .before .args in
-    same (c .query-line .ensures) refl refl refl ∙ sym (a-query (a .s) (now (a .line)) (listed (now (a .positions)) (now (a .responses)) (now (a .delays))) (c .before .before .before .before .before .before .before .if1 .left) (c .before .before .before .before .before .if2 .left) (c .before .before .before .if3 .left) (c .before .if4 .left))
+    same (c .query-line .ensures) refl refl refl ∙ sym (a-query (a .s) (now (a .line)) (textLists (now (a .positions)) (now (a .responses)) (now (a .delays))) (c .before .before .before .before .before .before .before .if1 .left) (c .before .before .before .before .before .if2 .left) (c .before .before .before .if3 .left) (c .before .if4 .left))
 
 pub take-line-spec : {M : Type 1} → statement M
 take-line-spec =

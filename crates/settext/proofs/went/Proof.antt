@@ -10,20 +10,20 @@ use Rattle.settext.proofs.went.Tie as tie
 number-requires : tie.Need-number-requires
 number-requires c κs = tt
 
-total-requires : tie.Need-total-requires
-total-requires c κs = tt
+line-count-requires : tie.Need-line-count-requires
+line-count-requires c κs = tt
 
 returns : tie.Need-returns
 unfolding wentOf
 returns c =
     let s = c .before .before .before .args .s in
-    rw (eq-eqb _ _ (sym (c .before .before .number .ensures) ∙ c .if1 .taken ∙ c .before .total .ensures)) (ap (λ (k : ℕ). Complete (setLines s k)) (c .before .before .number .ensures))
+    rw (eq-eqb _ _ (sym (c .before .before .number .ensures) ∙ c .if1 .taken ∙ c .before .line-count .ensures)) (ap (λ (k : ℕ). Complete (setLines s k)) (c .before .before .number .ensures))
 
 returns-2 : tie.Need-returns-2
 unfolding wentOf
 returns-2 c =
     let s = c .before .before .before .args .s in
-    rw (ne-eqb _ _ (λ e. c .if1 .left (c .before .before .number .ensures ∙ e ∙ sym (c .before .total .ensures)))) (ap (λ (k : ℕ). Next (setLines s k)) (c .before .before .number .ensures))
+    rw (ne-eqb _ _ (λ e. c .if1 .left (c .before .before .number .ensures ∙ e ∙ sym (c .before .line-count .ensures)))) (ap (λ (k : ℕ). Next (setLines s k)) (c .before .before .number .ensures))
 
 pub went-spec : {M : Type 1} → statement M
-went-spec = tie.close (tie.spec number-requires total-requires returns returns-2)
+went-spec = tie.close (tie.spec number-requires line-count-requires returns returns-2)

@@ -1,6 +1,6 @@
 -- `sofaquery::run` meets its contract. Assumes nothing.
 use Prim.Native.Nat.{ℕ, _+_, _-_, _≤_, _<_}
-use mathlib.Core.Path.{_≡_, refl, sym, subst, _∙_}
+use mathlib.Core.Path.{_≡_, refl, sym, ap, subst, _∙_}
 use mathlib.Core.Bool.{true, false}
 use mathlib.Core.List.{[]}
 use native.Mathlib.Omega.{arith}
@@ -15,7 +15,7 @@ use Rattle.queries.proofs.Keeps.{start-sound}
 use Rattle.queries.proofs.Turns.{fits}
 use Rattle.sofaquery.specs.declared.Flow.the-variants.{More}
 use Rattle.sofaquery.specs.Calls.{ListsHeld, here, goesOn, standAt, none, startStand, Made}
-use Rattle.sofaquery.proofs.Turns.{same-held, read-run, read-have, write-run, write-have, chunk-more, line-more}
+use Rattle.sofaquery.proofs.Turns.{same-held, read-run, read-have, write-run, write-have, chunk-more, line-more, answered}
 use borrow.Author.Needs.{needs}
 use Rattle.sofaquery.proofs.run.Statement.{statement}
 use Rattle.sofaquery.proofs.run.Tie as tie
@@ -82,7 +82,7 @@ loop-again c =
     let inside : l .went .at < l .went .have = c .before .before .before .before .before .before .before .before .before .before .before .before .before .before .before .before .before .if2 .taken in
     let going : goesOn (l .went .flow) ≡ true = sym (c .before .before .before .before .before .before .before .before .before .before .before .before .before .before .before .before .before .before .before .before .goes-on .ensures) ∙ c .before .before .before .before .before .before .before .before .before .before .before .before .before .before .before .before .before .before .before .if1 .taken in
     let place : Run → ListsHeld = λ r. here r (told .last .1 .1 .0) (told .last .1 .1 .1 .1 .0) (told .last .1 .1 .1 .1 .1 .0) (told .last .1 .1 .1 .1 .1 .1 .0) (told .last .1 .1 .1 .1 .1 .1 .1 .0) (told .last .1 .1 .1 .1 .1 .1 .1 .1 .0) (told .last .1 .1 .1 .1 .1 .1 .1 .1 .1 .0) (told .last .1 .1 .1 .1 .1 .1 .1 .1 .1 .1 .0) (told .last .1 .1 .1 .1 .1 .1 .1 .1 .1 .1 .1 .0) (told .last .1 .1 .1 .1 .1 .1 .1 .1 .1 .1 .1 .1 .0) (told .last .1 .1 .1 .1 .1 .1 .1 .1 .1 .1 .1 .1 .1 .0) in
-    (subst Sound (sym (write-run _ _ _ _ _ e)) (told .ensures .sound), subst (λ (n : ℕ). n ≤ 65536) (sym (write-have _ _ _ _ _ e)) (l .inv .1), l .inv .2, line-more _ _ fewer _ (l .chunk) _ _ room _ (l .inv .3) going inside place _ _ (same-held (told .ensures .place) (told .ensures .ears) (told .ensures .printed .same)) (told .ensures .left) refl ok _ e)
+    (subst Sound (sym (write-run _ _ _ _ _ e)) (told .ensures .sound), subst (λ (n : ℕ). n ≤ 65536) (sym (write-have _ _ _ _ _ e)) (l .inv .1), l .inv .2, line-more _ _ fewer _ (l .chunk) _ _ room _ (l .inv .3) going inside place _ _ (same-held (told .ensures .place) (told .ensures .buffer) (told .ensures .ears) (told .ensures .printed .same)) (told .ensures .left) refl ok (λ n. c .before .write .ensures (told .ensures .printed .count ∙ ap length n)) _ e)
 
 slice-aggregate-read : tie.Need-slice-aggregate-read Inv-loop μ-loop
 slice-aggregate-read c = search needs
@@ -108,7 +108,7 @@ loop-again-2 c =
     let used : l .went .have ≤ l .went .at = c .before .before .before .before .before .if2 .left in
     let going : goesOn (l .went .flow) ≡ true = sym (c .before .before .before .before .before .before .before .before .goes-on .ensures) ∙ c .before .before .before .before .before .before .before .if1 .taken in
     let place : Run → ListsHeld = λ r. here r (l .buf) (l .positions) (l .responses) (l .delays) (l .left) (l .right) (l .neighbours) (l .cartesian) (l .out-left) (l .out-right) (l .out) in
-    (subst Sound (sym (read-run _ _ _ e)) (l .inv .0), read-have _ _ _ e, search needs, chunk-more _ _ fewer _ (l .chunk) _ _ room _ (l .inv .3) going used place _ refl got bytes _ e)
+    (subst Sound (sym (read-run _ _ _ e)) (l .inv .0), read-have _ _ _ e, search needs, chunk-more _ _ fewer _ (l .chunk) _ _ room _ (l .inv .3) going used place _ refl got bytes (answered _ _ (l .inv .2) (c .before .before .before .read .ensures)) _ e)
 
 returns : tie.Need-returns Inv-loop μ-loop
 returns c =

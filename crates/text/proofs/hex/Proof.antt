@@ -5,7 +5,7 @@ use native.Mathlib.Omega.{arith}
 use lib.ListN.{length, drop}
 use denote.Ref.{now}
 use borrow.Author.Tests.{eq-eqb, ne-eqb}
-use Rattle.text.specs.Number.{hexOf, numFrom, pickNum}
+use Rattle.text.specs.Number.{hexOf, numFrom}
 use Rattle.text.proofs.Reading.{room, small, num-on, num-bad, num-end}
 use borrow.Author.Needs.{needs}
 use Rattle.text.proofs.hex.Statement.{statement}
@@ -24,11 +24,11 @@ next c =
     room (l .loop .i) (l .loop .v) (c .before .digit .result) (l .loop .inv .2) (c .if2 .left)
 
 returns : tie.Need-returns Inv-loop μ-loop
-unfolding hexOf pickNum
+unfolding hexOf
 returns c = simp (ne-eqb _ 8 (c .if1 .taken))
 
 loop-holds : tie.Need-loop-holds Inv-loop μ-loop
-unfolding hexOf pickNum
+unfolding hexOf
 loop-holds c = (search needs, c .if1 .left, search needs, simp (eq-eqb _ 8 (c .if1 .left)))
 
 shared-slice-read-digit : tie.Need-shared-slice-read-digit Inv-loop μ-loop

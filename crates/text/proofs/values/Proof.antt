@@ -8,9 +8,10 @@ use lib.ListN.{length, set}
 use lib.Ieee.{Float}
 use denote.Ref.{now}
 use borrow.Author.Tests.{le-leb}
-use Rattle.lists.specs.Over.{upto}
-use Rattle.text.specs.Values.{valuesOk, valueAt, stored, into}
-use Rattle.text.proofs.Reading.{measured, no-room, into-none, into-more}
+use Rattle.lists.specs.Over.{into, upto}
+use Rattle.lists.proofs.Laws.{into-nil}
+use Rattle.text.specs.Values.{valuesOk, valueAt, stored}
+use Rattle.text.proofs.Reading.{measured, no-room, into-more}
 use borrow.Author.Needs.{needs}
 use Rattle.text.proofs.values.Statement.{statement}
 use Rattle.text.proofs.values.Tie as tie
@@ -43,7 +44,7 @@ values-ok-requires c κs = tt
 
 loop-holds : tie.Need-loop-holds Inv-loop μ-loop
 unfolding upto
-loop-holds c = (search needs, omega arith, search needs, sym (c .before .values-ok .ensures) ∙ c .if3 .taken, into-none _ _)
+loop-holds c = (search needs, omega arith, search needs, sym (c .before .values-ok .ensures) ∙ c .if3 .taken, sym (into-nil _ _))
 
 value-at-requires : tie.Need-value-at-requires Inv-loop μ-loop
 value-at-requires c κs =

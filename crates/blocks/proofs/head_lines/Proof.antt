@@ -1,4 +1,4 @@
--- `blocks::head` meets its contract. Assumes nothing.
+-- `blocks::head_lines` meets its contract. Assumes nothing.
 use mathlib.Core.Path.{refl, _∙_}
 use Prim.Native.Nat.{ℕ}
 use mathlib.Core.List.{_++_}
@@ -7,8 +7,8 @@ use Rattle.text.specs.Words.{bytes}
 use Rattle.blocks.specs.Put.{FitsAt}
 use Rattle.blocks.specs.Blocks.{wordLine, countLine, headText}
 use Rattle.blocks.proofs.Into.{then, room-left, room-right}
-use Rattle.blocks.proofs.head.Statement.{statement}
-use Rattle.blocks.proofs.head.Tie as tie
+use Rattle.blocks.proofs.head_lines.Statement.{statement}
+use Rattle.blocks.proofs.head_lines.Tie as tie
 
 word-line-requires : tie.Need-word-line-requires
 unfolding headText bytes
@@ -81,8 +81,8 @@ returns c =
     let w3 = then at (p2 .result) (p3 .result) (wordLine (now (s .args .answer)) ++ countLine (bytes "nearest=") (s .args .nearest)) (countLine (bytes "points=") (s .args .points)) d e2 e3 r3 w2 (p3 .ensures) in
     w3
 
-pub head-spec : {M : Type 1} → statement M
-head-spec =
+pub head-lines-spec : {M : Type 1} → statement M
+head-lines-spec =
     tie.close
     (tie.spec
     word-line-requires

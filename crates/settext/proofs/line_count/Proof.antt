@@ -1,11 +1,11 @@
--- `settext::total` meets its contract. Assumes nothing.
+-- `settext::line_count` meets its contract. Assumes nothing.
 use mathlib.Core.Path.{refl}
 use native.Mathlib.Omega.{arith}
 use Rattle.settext.specs.State.{lineCount}
 use Rattle.settext.proofs.Laws.{product16}
 use borrow.Author.Needs.{needs}
-use Rattle.settext.proofs.total.Statement.{statement}
-use Rattle.settext.proofs.total.Tie as tie
+use Rattle.settext.proofs.line_count.Statement.{statement}
+use Rattle.settext.proofs.line_count.Tie as tie
 
 cast-m : tie.Need-cast-m
 cast-m c = search needs
@@ -38,8 +38,8 @@ returns : tie.Need-returns
 unfolding lineCount
 returns c = refl
 
-pub total-spec : {M : Type 1} → statement M
-total-spec =
+pub line-count-spec : {M : Type 1} → statement M
+line-count-spec =
     tie.close
     (tie.spec
     cast-m

@@ -1,4 +1,4 @@
--- What holds of every state that a text leads to: its counts are within the limits (`stays`), so that lists of 768, 4096 and 4096 values have
+-- What holds of every state that a text leads to: its counts are within the limits (`line`), so that lists of 768, 4096 and 4096 values have
 -- room for each of its lines (`has-room`). Assumes nothing.
 use Prim.Native.Nat.{ℕ, zero, suc, _+_, _-_, _*_, _≤_, _<_}
 use mathlib.Core.Path.{_≡_, refl}
@@ -18,19 +18,14 @@ use Rattle.text.specs.declared.Place.the-variants.{At, Nowhere}
 use Rattle.text.specs.Words.{bytes}
 use Rattle.text.specs.Keys.{exactlyOf, valuesFit, numBehind, pointBehind}
 use Rattle.settext.specs.declared.State.{State}
-use Rattle.settext.specs.declared.Step.{Step}
 use Rattle.settext.specs.declared.Step.the-variants.{Next, Complete}
 use Rattle.settext.specs.State.{startState, lineNumber, lineCount, counted, wentOf, badOf, setKind, setM, setR, setN, setDelays, setRate, setAstep, setRstep}
-use Rattle.settext.specs.Lines.{TextLists, After, gives, asked, when, afterAs, pickAfter, posLine, irLine, delayLine, product, kindOf, keys, keyLine, formLine, kindLine, mLine, rLine, nLine, rateLine, astepLine, rstepLine, delaysLine, valuesStep, queryLine, lineOf}
+use Rattle.settext.specs.Lines.{TextLists, gives, asked, when, afterAs, posLine, irLine, delayLine, product, kindOf, keys, keyLine, formLine, kindLine, mLine, rLine, nLine, rateLine, astepLine, rstepLine, delaysLine, valuesStep, queryLine, lineOf}
 use Rattle.settext.proofs.Laws.{behind-within, product-is}
-use Rattle.setread.specs.Text.{stateOf, readLine}
-use Rattle.setread.specs.Kept.{Reached}
+use Rattle.settext_laws.specs.Kept.{Reached, Few}
 
 pub begins-so : Reached startState
 begins-so = record { taps = lit≤ tt; points = lit≤ tt; product = lit≤ tt; unread = λ h. refl; delays = lit≤ tt }
-
-abbrev Few : Step → Type 0
-Few t = Reached (stateOf t)
 
 bad : (s : State) → Few (badOf s)
 unfolding badOf
@@ -121,16 +116,12 @@ module _ (s : State) (few : Reached s) (l : List ℕ) where
       e : ℕ
       e = j - s .m * s .r
 
-      by : (a b c f : Bool) → Few (pickAfter a (afterAs (keyLine s l) d) (pickAfter b (posLine s l d i) (pickAfter c (irLine s l d j) (pickAfter f (delayLine s l d e) (afterAs (queryLine s l) d)))) .step)
+      by : (a b c f : Bool) → Few (cond a (afterAs (keyLine s l) d) (cond b (posLine s l d i) (cond c (irLine s l d j) (cond f (delayLine s l d e) (afterAs (queryLine s l) d)))) .step)
       by true b c f = key (s .lines) refl
       by false true c f = if-good (valuesFit (bytes "pos=") 3 (3 * i) l (d .positions)) s s next
       by false false true f = if-good (valuesFit (bytes "ir=") (s .n) (j * s .n) l (d .responses)) s s next
       by false false false true = if-good (valuesFit (bytes "delay=") 1 e l (d .delays)) s s next
       by false false false false = query
-
-pub stays : (a : After) (l : List ℕ) → Reached (stateOf (a .step)) → Reached (stateOf (readLine a l .step))
-unfolding readLine
-stays a l h = line (stateOf (a .step)) h l (a .lists)
 
 pub record Room (i j e m r n d : ℕ) : Type 0 where
   pub positions : i < m → 3 * i + 3 ≤ 768

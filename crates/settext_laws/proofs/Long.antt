@@ -1,5 +1,5 @@
 -- A line of 40000 bytes or more is malformed, but for the word of `kind=`, which is then unknown. So the first 40000 bytes of a line say as much
--- as the whole line (`long-lines`). Assumes nothing.
+-- as the whole line (`long-lines`), and at the end of a text the first byte says whether anything is left (`end-of`). Assumes nothing.
 use Prim.Native.Nat.{ℕ, zero, suc, _-_, _*_, _≤_, _<_}
 use mathlib.Core.Path.{_≡_, refl, sym, ap, _∙_}
 use mathlib.Core.Bool.{Bool, true, false, cond, _&&_, and-false}
@@ -12,7 +12,7 @@ use lib.Ieee.{Float}
 use borrow.Author.Tests.{ne-eqb, ltb-true, ltb-false}
 use Rattle.text.specs.declared.Num.{Num}
 use Rattle.text.specs.declared.Num.the-variants.{Bad}
-use Rattle.text.specs.Number.{begins, countOf, hexOf, pickNum}
+use Rattle.text.specs.Number.{begins, countOf, hexOf}
 use Rattle.text.specs.Values.{valuesOk, stored}
 use Rattle.text.proofs.Reading.{long-count, other-length}
 use Rattle.text.specs.declared.Place.the-variants.{Nowhere}
@@ -20,14 +20,14 @@ use Rattle.text.specs.Words.{bytes}
 use Rattle.text.specs.Keys.{exactlyOf, numBehind, valuesFit, pointRead, pointBehind}
 use Rattle.settext.specs.declared.State.{State}
 use Rattle.settext.specs.State.{badOf}
-use Rattle.settext.specs.Lines.{TextLists, product, kindOf, keys, keyLine, formLine, kindLine, mLine, rLine, nLine, rateLine, astepLine, rstepLine, delaysLine, valuesStep, valuesList, queryLine, lineOf}
+use Rattle.settext.specs.Lines.{TextLists, product, kindOf, keys, keyLine, formLine, kindLine, mLine, rLine, nLine, rateLine, astepLine, rstepLine, delaysLine, valuesStep, valuesList, queryLine, lineOf, endOf}
 
 no-word : (w s : List ℕ) → length w < length s → exactlyOf w s ≡ false
 unfolding exactlyOf
 no-word w s h = rw (ne-eqb (length s) (length w) (λ e. omega arith)) (and-false (begins w s))
 
 no-hex : (s : List ℕ) → 39990 < length s → hexOf s ≡ Bad
-unfolding hexOf pickNum
+unfolding hexOf
 no-hex s h = rw (ne-eqb (length s) 8 (λ e. omega arith))
 
 no-values : (s : List ℕ) (n : ℕ) → 39990 < length s → n ≤ 4096 → valuesOk s n ≡ false
@@ -178,3 +178,14 @@ long-lines room g s l d n = by (ltb room (length l)) refl
         let k : 40000 ≤ length (take room l) = rw (length-take-le room l (omega arith)) g in
         line-same s l room (omega arith) g k n d
     by false e = ap (λ (l : List ℕ). lineOf s l d) (take-all room l (ltb-false room (length l) e))
+
+-- ---- the end of a text
+
+-- whether bytes are left shows in the first of them
+left-over : (room : ℕ) (r : List ℕ) → eqb (length (take (suc room) r)) 0 ≡ eqb (length r) 0
+left-over room [] = refl
+left-over room (x ∷ r) = ne-eqb (suc (length (take room r))) 0 (λ e. omega arith) ∙ sym (ne-eqb (suc (length r)) 0 (λ e. omega arith))
+
+pub end-of : (room : ℕ) (s : State) (h rest : List ℕ) → h ≡ rest → endOf s (take (suc room) h) ≡ endOf s rest
+unfolding endOf
+end-of room s h rest e = rw (left-over room h, e)
