@@ -21,7 +21,7 @@ use Rattle.mix.specs.declared.Share.{Share}
 use Rattle.mix.specs.declared.Points.{Points}
 use Rattle.mix.specs.Mix.{listOf, sums, tailed, plusProduct, outOf, tapOf, sampleOf}
 use Rattle.interpolate.specs.declared.Stride.{Stride}
-use Rattle.interpolate.specs.Blend.{delayAt, plainDelay, blendDelay, strideAt, nowhere, strideOf, entryOf, badBeyond, entryIn, good, known, allKnown, least, closer, beside, closestOf, metIf, Held, shareOf, taken, tiny32, close32, Neighbors, neighborsOf, distanceOf, pointsOf, Gathers, Filter, filterOf, extractOf, blendOf, refusedOf, weighedOf, interpolateOf, pickFilter, totalOf, part}
+use Rattle.interpolate.specs.Blend.{delayAt, plainDelay, blendDelay, strideAt, nowhere, strideOf, Leads, entryOf, badBeyond, entryIn, good, known, allKnown, least, closer, beside, closestOf, metIf, Held, shareOf, taken, tiny32, close32, Neighbors, neighborsOf, distanceOf, pointsOf, Gathers, Filter, filterOf, extractOf, blendOf, refusedOf, weighedOf, interpolateOf, totalOf, part}
 use Rattle.interpolate.specs.declared.Entry.{Entry}
 use Rattle.interpolate.specs.declared.Entry.the-variants.{Absent, Measured, Bad}
 use Rattle.interpolate.specs.declared.Closest.{Closest}
@@ -283,7 +283,7 @@ module _ (len m r e : ℕ) where
   by-none g h i = rw (ne-eqb len m g, lt-leb (m * r) len h, lt-leb r len i)
 
   -- a measurement's delay lies inside the list
-  pub stride-in : (k : ℕ) (s : Stride) → s ≡ strideOf len m r e → k < m → 2 ≤ r → e ≤ 1 → s .some ≡ true → k * s .times + s .plus < len
+  pub stride-in : (k : ℕ) (s : Stride) → s ≡ strideOf len m r e → k < m → 2 ≤ r → e ≤ 1 → s .some ≡ true → Leads s len k
   unfolding strideOf
   stride-in k s q hk hr he h = rw q (go (eqb len m) (leb (m * r) len) (leb r len) refl refl refl (rw q at h))
     where
@@ -328,24 +328,24 @@ module _ (m r n : ℕ) (resp delays : List Float) (rate : Float) (ll rl : ℕ) (
   answer = interpolateOf m r n resp delays rate ll rl cart near q k
 
   pub way-close : {o : Filter} (x : Float) → o ≡ extractOf m r n resp delays rate ll rl k → x ≡ distanceOf cart q k → lt x close32 ≡ true → o ≡ answer
-  unfolding interpolateOf pickFilter
+  unfolding interpolateOf
   way-close x eo e h = eo ∙ rw (← e, h)
 
   abbrev here : Gathered → Type 0
   here g = Gathers m (allKnown m (neighborsOf near k)) (pointsOf (distanceOf cart q) (neighborsOf near k) k) g
 
   pub way-refused : {o : Filter} (x : Float) (g : Gathered) → o ≡ refusedOf 9 0 ll rl → x ≡ distanceOf cart q k → lt x close32 ≡ false → here g → g ≡ gathered.Bad → o ≡ answer
-  unfolding interpolateOf pickFilter
+  unfolding interpolateOf
   way-refused x g eo e h w eg = let a = subst here eg w in eo ∙ rw (← e, h, a)
 
   pub way-light : {o : Filter} (x : Float) (p : Points) (t : Float) → o ≡ extractOf m r n resp delays rate ll rl k → x ≡ distanceOf cart q k → lt x close32 ≡ false → here (gathered.Points p)
       → t ≡ totalOf (listOf p) → lt t tiny32 ≡ true → o ≡ answer
-  unfolding interpolateOf weighedOf pickFilter
+  unfolding interpolateOf weighedOf
   way-light x p t eo e h w et ht = eo ∙ rw (← e, h, w .0, ← w .1, ← et, ht)
 
   pub way-blended : {o : Filter} (x : Float) (p : Points) (t : Float) (qs : List Share) → o ≡ blendOf m r n resp delays rate ll rl qs → x ≡ distanceOf cart q k → lt x close32 ≡ false → here (gathered.Points p)
       → t ≡ totalOf (listOf p) → lt t tiny32 ≡ false → qs ≡ map (part t) (listOf p) → o ≡ answer
-  unfolding interpolateOf weighedOf pickFilter
+  unfolding interpolateOf weighedOf
   way-blended x p t qs eo e h w et ht eq = eo ∙ rw (← e, h, w .0, ← w .1, ← et, ht, ← eq)
 
 -- ---- an answer and two outputs, as they were made

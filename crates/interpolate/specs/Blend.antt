@@ -16,6 +16,7 @@ use Rattle.delays.specs.declared.Outcome.{Outcome}
 use Rattle.delays.specs.declared.Outcome.the-variants.{Exact, Blended, Refused}
 use Rattle.delays.specs.Delays.{secondsOf}
 use Rattle.mix.specs.declared.Share.{Share}
+use Rattle.mix.specs.declared.Points.{Points}
 use Rattle.mix.specs.Mix.{sums, tapOf, sampleOf, outOf, listOf, Placed}
 use Rattle.interpolate.specs.declared.Entry.{Entry}
 use Rattle.interpolate.specs.declared.Entry.the-variants.{Absent, Measured, Bad}
@@ -161,6 +162,13 @@ nowhere = record { some = false; times = 0; plus = 0 }
 unfoldable pub strideOf : ℕ → ℕ → ℕ → ℕ → Stride
 strideOf len m r e = cond (eqb len m) (strideAt 1 0) (cond (leb (m * r) len) (strideAt r e) (cond (leb r len) (strideAt 0 e) nowhere))
 
+-- where it leads, for measurement k and for each of four places, into a list of so many delays
+abbrev pub Leads : Stride → ℕ → ℕ → Type 0
+Leads s len k = k * s .times + s .plus < len
+
+abbrev pub AllLead : Stride → ℕ → Points → Type 0
+AllLead s len p = Leads s len (p .a .number) × Leads s len (p .b .number) × Leads s len (p .c .number) × Leads s len (p .d .number)
+
 abbrev pub delayAt : List Float → Stride → ℕ → Float
 delayAt delays s k = getD delays (k * s .times + s .plus) nan
 
@@ -179,10 +187,6 @@ pub record Filter : Type 0 where
 
 abbrev pub filterOf : Outcome → List Float → List Float → Filter
 filterOf o l r = record { answer = o; left = l; right = r }
-
-unfoldable pub pickFilter : Bool → Filter → Filter → Filter
-pickFilter true a b = a
-pickFilter false a b = b
 
 -- refused: every sample of outputs of these two lengths is +0
 abbrev pub refusedOf : ℕ → ℕ → ℕ → ℕ → Filter
@@ -207,10 +211,10 @@ module _ (m r n : ℕ) (resp delays : List Float) (rate : Float) (ll rl : ℕ) w
 
   -- the points ps before the division; the nearest is k
   unfoldable pub weighedOf : ℕ → List Share → Filter
-  weighedOf k ps = pickFilter (lt (totalOf ps) tiny32) (extractOf k) (blendOf (map (part (totalOf ps)) ps))
+  weighedOf k ps = cond (lt (totalOf ps) tiny32) (extractOf k) (blendOf (map (part (totalOf ps)) ps))
 
   -- the query q, whose nearest measurement is k: the exact filter where k is close, a refusal where an entry is bad, else the blend
   unfoldable pub interpolateOf : List Float → List ℕ → Point3 → ℕ → Filter
   interpolateOf cart near q k =
-      pickFilter (lt (distanceOf cart q k) close32) (extractOf k)
-      (pickFilter (allKnown m (neighborsOf near k)) (weighedOf k (pointsOf (distanceOf cart q) (neighborsOf near k) k)) (refusedOf 9 0 ll rl))
+      cond (lt (distanceOf cart q k) close32) (extractOf k)
+      (cond (allKnown m (neighborsOf near k)) (weighedOf k (pointsOf (distanceOf cart q) (neighborsOf near k) k)) (refusedOf 9 0 ll rl))
