@@ -12,7 +12,7 @@ ghost use Prim.Native.Nat.{ℕ, _+_, _*_, _≤_, _<_};
 ghost use lib.ListN.{length};
 ghost use Rattle.floats.specs.Floats.{zero32};
 ghost use Rattle.mix.specs.Mix.{sums, listOf, Sized, Placed};
-ghost use Rattle.interpolate.specs.Blend.{TableHolds, distanceOf, entryIn, badBeyond, good, least, closer, metIf, closestOf, Held, taken, neighborsOf, pointsOf, allKnown, Gathers, totalOf, part, strideOf, Leads, AllLead, delayAt, plainDelay, blendDelay, filterOf, extractOf, blendOf, refusedOf, interpolateOf};
+ghost use Rattle.interpolate.specs.Blend.{TableHolds, distanceOf, entryIn, badBeyond, good, least, closerOf, metIf, closestOf, Held, taken, neighborsOf, pointsOf, allKnown, Gathers, totalOf, part, strideOf, Leads, AllLead, delayAt, plainDelay, blendDelay, filterOf, extractOf, blendOf, refusedOf, interpolateOf};
 ghost use Rattle.interpolate.specs.Blend as Blend;
 use delays::Outcome;
 use delays::Samples;
@@ -96,7 +96,7 @@ fn limit(best: Closest) -> f32
 // Measurement k beside the closest so far: it wins where it is strictly closer.
 fn closer(cartesian: &[f32], position: Point3, best: Closest, k: usize) -> Closest
     requires { ⌜ 3 * k + 2 < length (now cartesian) ⌝ }
-    ensures { λ r. ⌜ r ≡ closer (distanceOf (now (cartesian .entry)) position) best k ⌝ }
+    ensures { λ r. ⌜ r ≡ closerOf (distanceOf (now (cartesian .entry)) position) best k ⌝ }
 {
     let d = distance(cartesian, k, position);
     if d < limit(best) {
