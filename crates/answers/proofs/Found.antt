@@ -21,7 +21,7 @@ use Rattle.lookup.specs.declared.Located.the-variants.{At, Refused}
 use Rattle.lookup.specs.Lookup.{locateOf, unless, findOf}
 use Rattle.delays.specs.declared.Outcome.{Outcome}
 use Rattle.delays.specs.declared.Outcome.the-variants as outcome
-use Rattle.interpolate.specs.Blend.{Filter}
+use Rattle.interpolate.specs.Blend.{FilterAnswer}
 use Rattle.loads.specs.Load.{Work}
 use Rattle.reader.specs.Queries.{lengthsOf, allowed, nearestOr, filterSays}
 use Rattle.settext.specs.declared.State.{State}
@@ -50,12 +50,12 @@ pub record Number (f : Located) : Type 0 where
   pub number : ℕ
   pub found : f ≡ At number
 
-by-found : (f : Located) (ll rl : ℕ) (g : ℕ → Filter) → Answers (nearestOr f ll rl g .answer) → Number f
+by-found : (f : Located) (ll rl : ℕ) (g : ℕ → FilterAnswer) → Answers (nearestOr f ll rl g .answer) → Number f
 unfolding nearestOr
 by-found (At k) ll rl g a = record { number = k; found = refl }
 by-found (Refused n p) ll rl g a = absurd a
 
-by-verdict : (v w : Verdict) (f : Located) (ll rl : ℕ) (g : ℕ → Filter) → (v ≡ verdict.Fine → w ≡ verdict.Fine) → Answers (allowed v ll rl (nearestOr f ll rl g) .answer) → Number (unless w f)
+by-verdict : (v w : Verdict) (f : Located) (ll rl : ℕ) (g : ℕ → FilterAnswer) → (v ≡ verdict.Fine → w ≡ verdict.Fine) → Answers (allowed v ll rl (nearestOr f ll rl g) .answer) → Number (unless w f)
 unfolding allowed unless
 by-verdict verdict.Fine w f ll rl g e a = rw (e refl) (by-found f ll rl g a)
 by-verdict (verdict.Refused n p) w f ll rl g e a = absurd a

@@ -9,7 +9,7 @@ use Rattle.limits.specs.declared.Sizes.{Sizes}
 use Rattle.lookup.specs.declared.Lookup.{Lookup}
 use Rattle.lookup.specs.declared.Located.{Located}
 use Rattle.lookup.specs.Lookup.{findOf}
-use Rattle.interpolate.specs.Blend.{Filter}
+use Rattle.interpolate.specs.Blend.{FilterAnswer}
 use Rattle.reader.specs.Queries.{filterSays}
 use Rattle.loads.specs.Load.{Work, Load, loadOf}
 use Rattle.blocks.specs.Blocks.{blockOf}
@@ -28,11 +28,11 @@ unfoldable pub nearestNumber : State → Lookup → Work → Point3 → Located
 nearestNumber s look d q = findOf look (sizesIn s) (d .cartesian) (d .left) (d .right) q
 
 -- the filter at a query, with outputs of n values
-unfoldable pub filteredOf : State → Lookup → Work → List Float → List Float → Point3 → Filter
+unfoldable pub filteredOf : State → Lookup → Work → List Float → List Float → Point3 → FilterAnswer
 filteredOf s look d responses delays q =
     filterSays (sizesIn s) look (d .cartesian) (d .left) (d .right) (d .neighbours) responses (take (s .delays) delays) (s .rate) q (s .n) (s .n)
 
-abbrev pub blockFor : Filter → Located → List ℕ
+abbrev pub blockFor : FilterAnswer → Located → List ℕ
 blockFor f found = blockOf (f .answer) found (f .left) (f .right)
 
 -- the block of a query
@@ -50,7 +50,7 @@ abbrev pub answeredAs : ℕ → List ℕ → List Float → List Float → Answe
 answeredAs k out l r = record { count = k; out = out; left = l; right = r }
 
 -- the block b and the responses of f, over the list `out`
-abbrev pub blockInto : List ℕ → Filter → List ℕ → Answered
+abbrev pub blockInto : List ℕ → FilterAnswer → List ℕ → Answered
 blockInto b f out = answeredAs (length b) (over b out) (f .left) (f .right)
 
 unfoldable pub answeredOf : State → Lookup → Work → List Float → List Float → Point3 → List ℕ → Answered

@@ -21,7 +21,7 @@ use Rattle.mix.specs.declared.Share.{Share}
 use Rattle.mix.specs.declared.Points.{Points}
 use Rattle.mix.specs.Mix.{listOf, sums, tailed, plusProduct, outOf, tapOf, sampleOf}
 use Rattle.interpolate.specs.declared.Stride.{Stride}
-use Rattle.interpolate.specs.Blend.{delayAt, plainDelay, blendDelay, strideAt, nowhere, strideOf, entryOf, badBeyond, entryIn, good, known, allKnown, least, closer, beside, closestOf, metIf, Held, shareOf, taken, tiny32, close32, Neighbors, neighborsOf, distanceOf, pointsOf, Gathers, Filter, filterOf, extractOf, blendOf, refusedOf, weighedOf, interpolateOf, pickFilter, totalOf, part}
+use Rattle.interpolate.specs.Blend.{delayAt, plainDelay, blendDelay, strideAt, nowhere, strideOf, Leads, entryOf, badBeyond, entryIn, good, known, allKnown, least, closerOf, beside, closestOf, metIf, Held, shareOf, taken, tiny32, close32, Neighbors, neighborsOf, distanceOf, pointsOf, Gathers, FilterAnswer, filterOf, extractOf, blendOf, refusedOf, weighedOf, interpolateOf, totalOf, part}
 use Rattle.interpolate.specs.declared.Entry.{Entry}
 use Rattle.interpolate.specs.declared.Entry.the-variants.{Absent, Measured, Bad}
 use Rattle.interpolate.specs.declared.Closest.{Closest}
@@ -176,12 +176,12 @@ total-at p k e = ap (λ (j : ℕ). totalOf (take j (fours p))) (sym e)
 
 -- ---- a pair
 module _ (d : ℕ → Float) (best : Closest) (k : ℕ) (x l : Float) (ex : x ≡ d k) (el : l ≡ least best) where
-  pub closer-wins : lt x l ≡ true → At k x ≡ closer d best k
-  unfolding closer
+  pub closer-wins : lt x l ≡ true → At k x ≡ closerOf d best k
+  unfolding closerOf
   closer-wins h = rw (← ex, ← el, h)
 
-  pub closer-stays : lt x l ≡ false → best ≡ closer d best k
-  unfolding closer
+  pub closer-stays : lt x l ≡ false → best ≡ closerOf d best k
+  unfolding closerOf
   closer-stays h = rw (← ex, ← el, h)
 
 -- what it says that the entries so far were met
@@ -227,8 +227,8 @@ pub taken-no : (k : ℕ) (x : Float) (b : Closest) → b ≡ At k x → lt tiny3
 taken-no k x b e h = ap taken e ∙ rw h
 
 -- a closest is a measurement
-held-closer : (m : ℕ) (d : ℕ → Float) (b : Closest) (k : ℕ) → k < m → Held m b → Held m (closer d b k)
-unfolding closer
+held-closer : (m : ℕ) (d : ℕ → Float) (b : Closest) (k : ℕ) → k < m → Held m b → Held m (closerOf d b k)
+unfolding closerOf
 held-closer m d b k hk h = go (lt (d k) (least b))
   where
     go : (t : Bool) → Held m (cond t (At k (d k)) b)
@@ -283,7 +283,7 @@ module _ (len m r e : ℕ) where
   by-none g h i = rw (ne-eqb len m g, lt-leb (m * r) len h, lt-leb r len i)
 
   -- a measurement's delay lies inside the list
-  pub stride-in : (k : ℕ) (s : Stride) → s ≡ strideOf len m r e → k < m → 2 ≤ r → e ≤ 1 → s .some ≡ true → k * s .times + s .plus < len
+  pub stride-in : (k : ℕ) (s : Stride) → s ≡ strideOf len m r e → k < m → 2 ≤ r → e ≤ 1 → s .some ≡ true → Leads s len k
   unfolding strideOf
   stride-in k s q hk hr he h = rw q (go (eqb len m) (leb (m * r) len) (leb r len) refl refl refl (rw q at h))
     where
@@ -324,28 +324,28 @@ times m r hm hr = mul-le-mul {n₂ = 16384} {m₂ = 8} hm hr
 
 -- ---- the four ways through
 module _ (m r n : ℕ) (resp delays : List Float) (rate : Float) (ll rl : ℕ) (cart : List Float) (near : List ℕ) (q : Point3) (k : ℕ) where
-  abbrev answer : Filter
+  abbrev answer : FilterAnswer
   answer = interpolateOf m r n resp delays rate ll rl cart near q k
 
-  pub way-close : {o : Filter} (x : Float) → o ≡ extractOf m r n resp delays rate ll rl k → x ≡ distanceOf cart q k → lt x close32 ≡ true → o ≡ answer
-  unfolding interpolateOf pickFilter
+  pub way-close : {o : FilterAnswer} (x : Float) → o ≡ extractOf m r n resp delays rate ll rl k → x ≡ distanceOf cart q k → lt x close32 ≡ true → o ≡ answer
+  unfolding interpolateOf
   way-close x eo e h = eo ∙ rw (← e, h)
 
   abbrev here : Gathered → Type 0
   here g = Gathers m (allKnown m (neighborsOf near k)) (pointsOf (distanceOf cart q) (neighborsOf near k) k) g
 
-  pub way-refused : {o : Filter} (x : Float) (g : Gathered) → o ≡ refusedOf 9 0 ll rl → x ≡ distanceOf cart q k → lt x close32 ≡ false → here g → g ≡ gathered.Bad → o ≡ answer
-  unfolding interpolateOf pickFilter
+  pub way-refused : {o : FilterAnswer} (x : Float) (g : Gathered) → o ≡ refusedOf 9 0 ll rl → x ≡ distanceOf cart q k → lt x close32 ≡ false → here g → g ≡ gathered.Bad → o ≡ answer
+  unfolding interpolateOf
   way-refused x g eo e h w eg = let a = subst here eg w in eo ∙ rw (← e, h, a)
 
-  pub way-light : {o : Filter} (x : Float) (p : Points) (t : Float) → o ≡ extractOf m r n resp delays rate ll rl k → x ≡ distanceOf cart q k → lt x close32 ≡ false → here (gathered.Points p)
+  pub way-light : {o : FilterAnswer} (x : Float) (p : Points) (t : Float) → o ≡ extractOf m r n resp delays rate ll rl k → x ≡ distanceOf cart q k → lt x close32 ≡ false → here (gathered.Points p)
       → t ≡ totalOf (listOf p) → lt t tiny32 ≡ true → o ≡ answer
-  unfolding interpolateOf weighedOf pickFilter
+  unfolding interpolateOf weighedOf
   way-light x p t eo e h w et ht = eo ∙ rw (← e, h, w .0, ← w .1, ← et, ht)
 
-  pub way-blended : {o : Filter} (x : Float) (p : Points) (t : Float) (qs : List Share) → o ≡ blendOf m r n resp delays rate ll rl qs → x ≡ distanceOf cart q k → lt x close32 ≡ false → here (gathered.Points p)
+  pub way-blended : {o : FilterAnswer} (x : Float) (p : Points) (t : Float) (qs : List Share) → o ≡ blendOf m r n resp delays rate ll rl qs → x ≡ distanceOf cart q k → lt x close32 ≡ false → here (gathered.Points p)
       → t ≡ totalOf (listOf p) → lt t tiny32 ≡ false → qs ≡ map (part t) (listOf p) → o ≡ answer
-  unfolding interpolateOf weighedOf pickFilter
+  unfolding interpolateOf weighedOf
   way-blended x p t qs eo e h w et ht eq = eo ∙ rw (← e, h, w .0, ← w .1, ← et, ht, ← eq)
 
 -- ---- an answer and two outputs, as they were made

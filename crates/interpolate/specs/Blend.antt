@@ -16,6 +16,7 @@ use Rattle.delays.specs.declared.Outcome.{Outcome}
 use Rattle.delays.specs.declared.Outcome.the-variants.{Exact, Blended, Refused}
 use Rattle.delays.specs.Delays.{secondsOf}
 use Rattle.mix.specs.declared.Share.{Share}
+use Rattle.mix.specs.declared.Points.{Points}
 use Rattle.mix.specs.Mix.{sums, tapOf, sampleOf, outOf, listOf, Placed}
 use Rattle.interpolate.specs.declared.Entry.{Entry}
 use Rattle.interpolate.specs.declared.Entry.the-variants.{Absent, Measured, Bad}
@@ -74,13 +75,13 @@ least Nothing = largest32
 least (At k e) = e
 
 -- measurement k beside the closest so far: it wins where it is strictly closer, so that the first listed keeps a tie
-unfoldable pub closer : (ℕ → Float) → Closest → ℕ → Closest
-closer d best k = cond (lt (d k) (least best)) (At k (d k)) best
+unfoldable pub closerOf : (ℕ → Float) → Closest → ℕ → Closest
+closerOf d best k = cond (lt (d k) (least best)) (At k (d k)) best
 
 -- an entry beside the closest so far
 abbrev pub beside : (ℕ → Float) → Closest → Entry → Closest
 beside d best Absent = best
-beside d best (Measured k) = closer d best k
+beside d best (Measured k) = closerOf d best k
 beside d best Bad = best
 
 -- the closest of a pair as it stands
@@ -161,6 +162,13 @@ nowhere = record { some = false; times = 0; plus = 0 }
 unfoldable pub strideOf : ℕ → ℕ → ℕ → ℕ → Stride
 strideOf len m r e = cond (eqb len m) (strideAt 1 0) (cond (leb (m * r) len) (strideAt r e) (cond (leb r len) (strideAt 0 e) nowhere))
 
+-- where it leads, for measurement k and for each of four places, into a list of so many delays
+abbrev pub Leads : Stride → ℕ → ℕ → Type 0
+Leads s len k = k * s .times + s .plus < len
+
+abbrev pub AllLead : Stride → ℕ → Points → Type 0
+AllLead s len p = Leads s len (p .a .number) × Leads s len (p .b .number) × Leads s len (p .c .number) × Leads s len (p .d .number)
+
 abbrev pub delayAt : List Float → Stride → ℕ → Float
 delayAt delays s k = getD delays (k * s .times + s .plus) nan
 
@@ -172,25 +180,21 @@ unfoldable pub blendDelay : List Float → ℕ → ℕ → ℕ → List Share �
 blendDelay delays m r e ps = let s = strideOf (length delays) m r e in record { 0 = cond (s .some) (sums (delayAt delays s) zero32 ps) zero32 }
 
 -- ---- what a filter query answers and what its two outputs then hold
-pub record Filter : Type 0 where
+pub record FilterAnswer : Type 0 where
   pub answer : Outcome
   pub left : List Float
   pub right : List Float
 
-abbrev pub filterOf : Outcome → List Float → List Float → Filter
+abbrev pub filterOf : Outcome → List Float → List Float → FilterAnswer
 filterOf o l r = record { answer = o; left = l; right = r }
 
-unfoldable pub pickFilter : Bool → Filter → Filter → Filter
-pickFilter true a b = a
-pickFilter false a b = b
-
 -- refused: every sample of outputs of these two lengths is +0
-abbrev pub refusedOf : ℕ → ℕ → ℕ → ℕ → Filter
+abbrev pub refusedOf : ℕ → ℕ → ℕ → ℕ → FilterAnswer
 refusedOf number place ll rl = record { answer = Refused number place; left = replicate ll zero32; right = replicate rl zero32 }
 
 module _ (m r n : ℕ) (resp delays : List Float) (rate : Float) (ll rl : ℕ) where
   -- measurement k as it is
-  unfoldable pub extractOf : ℕ → Filter
+  unfoldable pub extractOf : ℕ → FilterAnswer
   extractOf k = record {
     answer = Exact (secondsOf (plainDelay delays m r 0 k) rate) (secondsOf (plainDelay delays m r 1 k) rate);
     left = outOf (λ i. tapOf resp r n 0 i k) n ll;
@@ -198,7 +202,7 @@ module _ (m r n : ℕ) (resp delays : List Float) (rate : Float) (ll rl : ℕ) w
   }
 
   -- the points ps, their weights divided by the sum
-  unfoldable pub blendOf : List Share → Filter
+  unfoldable pub blendOf : List Share → FilterAnswer
   blendOf ps = record {
     answer = Blended (secondsOf (blendDelay delays m r 0 ps) rate) (secondsOf (blendDelay delays m r 1 ps) rate) (length ps);
     left = outOf (sampleOf resp r n 0 ps) n ll;
@@ -206,11 +210,11 @@ module _ (m r n : ℕ) (resp delays : List Float) (rate : Float) (ll rl : ℕ) w
   }
 
   -- the points ps before the division; the nearest is k
-  unfoldable pub weighedOf : ℕ → List Share → Filter
-  weighedOf k ps = pickFilter (lt (totalOf ps) tiny32) (extractOf k) (blendOf (map (part (totalOf ps)) ps))
+  unfoldable pub weighedOf : ℕ → List Share → FilterAnswer
+  weighedOf k ps = cond (lt (totalOf ps) tiny32) (extractOf k) (blendOf (map (part (totalOf ps)) ps))
 
   -- the query q, whose nearest measurement is k: the exact filter where k is close, a refusal where an entry is bad, else the blend
-  unfoldable pub interpolateOf : List Float → List ℕ → Point3 → ℕ → Filter
+  unfoldable pub interpolateOf : List Float → List ℕ → Point3 → ℕ → FilterAnswer
   interpolateOf cart near q k =
-      pickFilter (lt (distanceOf cart q k) close32) (extractOf k)
-      (pickFilter (allKnown m (neighborsOf near k)) (weighedOf k (pointsOf (distanceOf cart q) (neighborsOf near k) k)) (refusedOf 9 0 ll rl))
+      cond (lt (distanceOf cart q k) close32) (extractOf k)
+      (cond (allKnown m (neighborsOf near k)) (weighedOf k (pointsOf (distanceOf cart q) (neighborsOf near k) k)) (refusedOf 9 0 ll rl))

@@ -12,7 +12,7 @@ ghost use Prim.Native.Nat.{ℕ, _+_, _*_, _≤_, _<_};
 ghost use lib.ListN.{length};
 ghost use Rattle.floats.specs.Floats.{zero32};
 ghost use Rattle.mix.specs.Mix.{sums, listOf, Sized, Placed};
-ghost use Rattle.interpolate.specs.Blend.{TableHolds, distanceOf, entryIn, badBeyond, good, least, closer, metIf, closestOf, Held, taken, neighborsOf, pointsOf, allKnown, Gathers, totalOf, part, strideOf, delayAt, plainDelay, blendDelay, filterOf, extractOf, blendOf, refusedOf, interpolateOf};
+ghost use Rattle.interpolate.specs.Blend.{TableHolds, distanceOf, entryIn, badBeyond, good, least, closerOf, metIf, closestOf, Held, taken, neighborsOf, pointsOf, allKnown, Gathers, totalOf, part, strideOf, Leads, AllLead, delayAt, plainDelay, blendDelay, filterOf, extractOf, blendOf, refusedOf, interpolateOf};
 ghost use Rattle.interpolate.specs.Blend as Blend;
 use delays::Outcome;
 use delays::Samples;
@@ -76,7 +76,8 @@ fn entry_of(m: usize, k: u16) -> Entry
 
 // Entry j of measurement k.
 fn entry_at(neighbours: &[u16], m: usize, k: usize, j: usize) -> Entry
-    requires { ⌜ (j ≤ 5) × (6 * k + 6 ≤ length (now neighbours)) ⌝ }
+    requires { ⌜ (j ≤ 5)
+        × (6 * k + 6 ≤ length (now neighbours)) ⌝ }
     ensures { λ r. ⌜ r ≡ entryIn m (Blend.entry (now (neighbours .entry)) k j) ⌝ }
 {
     entry_of(m, neighbours[6 * k + j])
@@ -95,7 +96,7 @@ fn limit(best: Closest) -> f32
 // Measurement k beside the closest so far: it wins where it is strictly closer.
 fn closer(cartesian: &[f32], position: Point3, best: Closest, k: usize) -> Closest
     requires { ⌜ 3 * k + 2 < length (now cartesian) ⌝ }
-    ensures { λ r. ⌜ r ≡ closer (distanceOf (now (cartesian .entry)) position) best k ⌝ }
+    ensures { λ r. ⌜ r ≡ closerOf (distanceOf (now (cartesian .entry)) position) best k ⌝ }
 {
     let d = distance(cartesian, k, position);
     if d < limit(best) {
@@ -104,21 +105,32 @@ fn closer(cartesian: &[f32], position: Point3, best: Closest, k: usize) -> Close
     best
 }
 
-// An entry beside the closest so far.
-fn meet(cartesian: &[f32], position: Point3, m: usize, best: Closest, e: Entry) -> Met
-    requires { ⌜ (badBeyond m e ≡ e) × (3 * m ≤ length (now cartesian)) ⌝ }
-    ensures { λ r. ⌜ r ≡ metIf (good e) (Blend.beside (distanceOf (now (cartesian .entry)) position) best e) ⌝ }
+// Where no measurement is met the closest stays; a bad entry leaves with its refusal.
+fn unless_bad(best: Closest, e: Entry) -> Met
+    ensures { λ r. ⌜ r ≡ metIf (good e) best ⌝ }
 {
     match e {
-        Entry::Absent => Met::Best(best),
-        Entry::Measured(k) => Met::Best(closer(cartesian, position, best, k)),
         Entry::Bad => Met::Bad,
+        _ => Met::Best(best),
     }
+}
+
+// An entry beside the closest so far.
+fn meet(cartesian: &[f32], position: Point3, m: usize, best: Closest, e: Entry) -> Met
+    requires { ⌜ (badBeyond m e ≡ e)
+        × (3 * m ≤ length (now cartesian)) ⌝ }
+    ensures { λ r. ⌜ r ≡ metIf (good e) (Blend.beside (distanceOf (now (cartesian .entry)) position) best e) ⌝ }
+{
+    let Entry::Measured(k) = e else {
+        return unless_bad(best, e);
+    };
+    Met::Best(closer(cartesian, position, best, k))
 }
 
 // One point more. Places that are not counted hold measurements too, so that none is tested where places are read.
 fn push(p: Points, s: Share) -> Points
-    requires { ⌜ (1 ≤ p .count) × (p .count ≤ 3) ⌝ }
+    requires { ⌜ (1 ≤ p .count)
+        × (p .count ≤ 3) ⌝ }
     ensures { λ r. ⌜ (listOf r ≡ listOf p ++ (s ∷ [])) × (r .count ≡ p .count + 1) × ((m : ℕ) → Placed m p → s .number < m → Placed m r) ⌝ }
 {
     let a = p.a;
@@ -153,7 +165,8 @@ fn push(p: Points, s: Share) -> Points
 
 // The closest of a pair, if it is taken.
 fn add_closer_neighbor(p: Points, best: Closest) -> Points
-    requires { ⌜ (1 ≤ p .count) × (p .count ≤ 3) ⌝ }
+    requires { ⌜ (1 ≤ p .count)
+        × (p .count ≤ 3) ⌝ }
     ensures { λ r. ⌜ (listOf r ≡ listOf p ++ taken best) × (r .count ≤ p .count + 1) × ((m : ℕ) → Placed m p → Held m best → Placed m r) ⌝ }
 {
     let Closest::At(k, d) = best else {
@@ -238,7 +251,8 @@ fn gather(
 
 // The sum of the weights.
 fn total(p: Points) -> f32
-    requires { ⌜ (1 ≤ p .count) × (p .count ≤ 4) ⌝ }
+    requires { ⌜ (1 ≤ p .count)
+        × (p .count ≤ 4) ⌝ }
     ensures { λ r. ⌜ r ≡ totalOf (listOf p) ⌝ }
 {
     let a = 0.0 + p.a.weight;
@@ -281,7 +295,8 @@ fn divided(p: Points, sum: f32) -> Points
 
 // By the count of the delays: one per measurement for both ears; per measurement and receiver; the first two for all; none.
 fn stride_of(len: usize, m: usize, r: usize, e: usize) -> Stride
-    requires { ⌜ (m ≤ 16384) × (r ≤ 8) ⌝ }
+    requires { ⌜ (m ≤ 16384)
+        × (r ≤ 8) ⌝ }
     ensures { λ s. ⌜ s ≡ strideOf len m r e ⌝ }
 {
     if len == m {
@@ -314,7 +329,7 @@ fn stride_of(len: usize, m: usize, r: usize, e: usize) -> Stride
 
 // Measurement k's delay, where s leads to one.
 fn held(delays: &[f32], s: Stride, k: usize) -> f32
-    requires { ⌜ k * s .times + s .plus < length (now delays) ⌝ }
+    requires { ⌜ Leads s (length (now delays)) k ⌝ }
     ensures { λ r. ⌜ r ≡ delayAt (now (delays .entry)) s k ⌝ }
 {
     delays[k * s.times + s.plus]
@@ -338,9 +353,9 @@ pub fn plain_delay(delays: &[f32], k: usize, m: usize, r: usize, e: usize) -> Sa
 
 // The delays of one to four points, weighed and added up.
 fn weighed(delays: &[f32], p: Points, s: Stride) -> f32
-    requires { ⌜ (1 ≤ p .count) × (p .count ≤ 4)
-        × (p .a .number * s .times + s .plus < length (now delays)) × (p .b .number * s .times + s .plus < length (now delays))
-        × (p .c .number * s .times + s .plus < length (now delays)) × (p .d .number * s .times + s .plus < length (now delays)) ⌝ }
+    requires { ⌜ (1 ≤ p .count)
+        × (p .count ≤ 4)
+        × AllLead s (length (now delays)) p ⌝ }
     ensures { λ r. ⌜ r ≡ sums (delayAt (now (delays .entry)) s) zero32 (listOf p) ⌝ }
 {
     let a = 0.0 + held(delays, s, p.a.number) * p.a.weight;

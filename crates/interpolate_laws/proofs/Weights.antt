@@ -22,7 +22,7 @@ use Rattle.points.specs.declared.Point3.{Point3}
 use Rattle.mix.specs.declared.Share.{Share}
 use Rattle.delays.specs.declared.Seconds.{Seconds}
 use Rattle.delays.specs.declared.Outcome.the-variants.{Exact, Blended, Refused}
-use Rattle.interpolate.specs.Blend.{close32, tiny32, largest32, totalFrom, totalOf, part, shareOf, entryOf, badBeyond, known, allKnown, least, closer, beside, closestOf, taken, pairOf, Neighbors, pointsOf, distanceOf, neighborsOf, Filter, pickFilter, extractOf, blendOf, weighedOf, refusedOf, interpolateOf}
+use Rattle.interpolate.specs.Blend.{close32, tiny32, largest32, totalFrom, totalOf, part, shareOf, entryOf, badBeyond, known, allKnown, least, closerOf, beside, closestOf, taken, pairOf, Neighbors, pointsOf, distanceOf, neighborsOf, FilterAnswer, extractOf, blendOf, weighedOf, refusedOf, interpolateOf}
 use Rattle.interpolate.specs.declared.Entry.{Entry}
 use Rattle.interpolate.specs.declared.Entry.the-variants as entry
 use Rattle.interpolate.specs.declared.Closest.{Closest}
@@ -190,8 +190,8 @@ points-count d s k = (
 
 -- ---- all of them sound, where no measurement's distance is negative or a NaN and the nearest's is not below 1e-6
 module _ (m : ℕ) (d : ℕ → Float) (h : (j : ℕ) → j < m → T (nonneg (d j))) where
-  closer-nonneg : (b : Closest) (k : ℕ) → k < m → T (nonneg (least b)) → T (nonneg (least (closer d b k)))
-  unfolding closer
+  closer-nonneg : (b : Closest) (k : ℕ) → k < m → T (nonneg (least b)) → T (nonneg (least (closerOf d b k)))
+  unfolding closerOf
   closer-nonneg b k e g = go (lt (d k) (least b))
     where
       go : (u : Bool) → T (nonneg (least (cond u (At k (d k)) b)))
@@ -241,15 +241,14 @@ module _ (m : ℕ) (d : ℕ → Float) (h : (j : ℕ) → j < m → T (nonneg (d
       tiny-close = unfold le ofBits in tt
 
 -- ---- an answer that is blended went past all three exits
-record Past (t u v : Bool) (y : Filter) (l r : Seconds) (c : ℕ) : Type 0 where
+record Past (t u v : Bool) (y : FilterAnswer) (l r : Seconds) (c : ℕ) : Type 0 where
   far : t ≡ false
   met : u ≡ true
   heavy : v ≡ false
   says : y .answer ≡ Blended l r c
 
-past : (t u v : Bool) (x y z : Filter) (l r a b : Seconds) (c i j : ℕ) → x .answer ≡ Exact a b → z .answer ≡ Refused i j
-    → (pickFilter t x (pickFilter u (pickFilter v x y) z)) .answer ≡ Blended l r c → Past t u v y l r c
-unfolding pickFilter
+past : (t u v : Bool) (x y z : FilterAnswer) (l r a b : Seconds) (c i j : ℕ) → x .answer ≡ Exact a b → z .answer ≡ Refused i j
+    → (cond t x (cond u (cond v x y) z)) .answer ≡ Blended l r c → Past t u v y l r c
 past true u v x y z l r a b c i j ex ez e = let w : _≡_ {A = ℕ} 0 1 = cc in absurd (omega arith)
 past false false v x y z l r a b c i j ex ez e = let w : _≡_ {A = ℕ} 0 1 = cc in absurd (omega arith)
 past false true true x y z l r a b c i j ex ez e = let w : _≡_ {A = ℕ} 0 1 = cc in absurd (omega arith)

@@ -1,4 +1,4 @@
--- The ends of the ranges: 0.1 and 0.001 as bit patterns, and that a value between two finite ends is finite. Assumes nothing.
+-- The ends of the ranges: 0.1 as a bit pattern, and that a value between two finite ends is finite. Assumes nothing.
 use mathlib.Core.Path.{_≡_, refl}
 use mathlib.Core.Bool.{true, false}
 use lib.Dec.{T}
@@ -11,10 +11,6 @@ use Rattle.limits.specs.Allowed.{nearest32, between, within, angleOk, ra
 pub tenth : nearest32 1 10 ≡ ofBits binary32 0x3dcccccd
 unfolding round ofBits
 tenth = refl
-
-pub thousandth : nearest32 1 1000 ≡ ofBits binary32 0x3a83126f
-unfolding round ofBits
-thousandth = refl
 
 pub between-low : (lo hi x : Float) → between lo hi x ≡ true → T (le lo x)
 unfolding between

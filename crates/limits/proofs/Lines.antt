@@ -1,33 +1,32 @@
 -- The verdict over a list of lines: the first that is met, and Fine exactly where none is. Assumes nothing.
 use Prim.Native.Nat.{ℕ}
 use mathlib.Core.Path.{_≡_, refl, sym, _∙_}
-use mathlib.Core.Bool.{Bool, true, false, not}
+use mathlib.Core.Bool.{Bool, true, false, cond, not}
 use mathlib.Core.List.{List, [], _∷_, _++_}
 use native.Mathlib.Omega.{arith}
 use borrow.Author.Tests.{not-false}
 use Rattle.limits.specs.declared.Verdict.{Verdict}
 use Rattle.limits.specs.declared.Verdict.the-variants.{Fine, Refused}
-use Rattle.limits.specs.Refusals.{Check, verdictOf, pickVerdict}
+use Rattle.limits.specs.Refusals.{Check, verdictOf}
 
 never : {n p : ℕ} → Refused n p ≡ Fine → ⊥
 never e = let z : _≡_ {A = ℕ} 0 1 = cc in omega arith
 
 -- a line that is met gives its number and place
 pub stops : (c : Check) (cs : List Check) → c .met ≡ true → verdictOf (c ∷ cs) ≡ Refused (c .number) (c .place)
-unfolding verdictOf pickVerdict
+unfolding verdictOf
 stops c cs e = rw e
 
 -- one that is not leaves the verdict to those after it
 pub goes-on : (c : Check) (cs : List Check) → c .met ≡ false → verdictOf (c ∷ cs) ≡ verdictOf cs
-unfolding verdictOf pickVerdict
+unfolding verdictOf
 goes-on c cs e = rw e
 
 pub none : verdictOf [] ≡ Fine
 unfolding verdictOf
 none = refl
 
-picked : (b : Bool) (n p : ℕ) (v : Verdict) → pickVerdict b (Refused n p) v ≡ Fine → (b ≡ false) × (v ≡ Fine)
-unfolding pickVerdict
+picked : (b : Bool) (n p : ℕ) (v : Verdict) → cond b (Refused n p) v ≡ Fine → (b ≡ false) × (v ≡ Fine)
 picked true n p v e = absurd (never e)
 picked false n p v e = (refl, e)
 

@@ -1,7 +1,7 @@
 -- What a verdict of Fine gives a caller: bounds on the sizes, the lengths of the lent lists, allowed values, finite queries. Assumes nothing.
 use Prim.Native.Nat.{ℕ, _*_, _≤_, _<_}
-use mathlib.Core.Path.{_≡_, subst}
-use mathlib.Core.Bool.{Bool, true, false, not, _&&_}
+use mathlib.Core.Path.{_≡_}
+use mathlib.Core.Bool.{Bool, true, false, _&&_}
 use mathlib.Core.List.{List}
 use native.Mathlib.Nat.{mul-le-mul}
 use native.Mathlib.Omega.{arith}
@@ -11,13 +11,13 @@ use lib.Ieee.{Float, nan}
 use lib.Ieee.Scale.{finite}
 use borrow.Author.Tests.{leb-true, leb-false, ltb-false, eqb-true, not-false}
 use Rattle.points.specs.declared.Point3.{Point3}
-use Rattle.floats.proofs.Cross.{and-left, and-right, and6}
+use Rattle.floats.proofs.Cross.{and-left, and-right, and6, of-taken}
 use Rattle.limits.specs.declared.Sizes.{Sizes}
 use Rattle.limits.specs.declared.TreeLengths.{TreeLengths}
 use Rattle.limits.specs.declared.Lengths.{Lengths}
 use Rattle.limits.specs.declared.Verdict.the-variants.{Fine}
 use Rattle.limits.specs.Allowed.{sizesOk, treeFits, responsesFit, neighboursFit, plainFits, blendFits, loadFits, kindOk, positionOk, firstBad, angleStepOk, radiusStepOk, rateOk}
-use Rattle.limits.specs.Refusals.{verdictOf, queryLines, loadLines, findLines, filterLines, numberLines, ratedLines, rateLines, valueLines, triplets}
+use Rattle.limits.specs.Refusals.{verdictOf, queryLines, loadLines, findLines, filterLines, numberLines, ratedLines, valueLines, triplets}
 use Rattle.limits.proofs.Lines.{passed}
 use Rattle.limits.proofs.Values.{allowed-before}
 
@@ -103,16 +103,12 @@ pub record FiniteQuery (q : Point3) : Type 0 where
   pub y : T (finite (q .y))
   pub z : T (finite (q .z))
 
-holds : (b : Bool) → not b ≡ false → T b
-holds true e = tt
-holds false e = absurd (subst T e tt)
-
 pub query-passed : (q : Point3) → verdictOf (queryLines q) ≡ Fine → FiniteQuery q
 query-passed q e =
     let p0 = passed _ _ e in
     let p1 = passed _ _ (p0 .1) in
     let p2 = passed _ _ (p1 .1) in
-    record { x = holds (finite (q .x)) (p0 .0); y = holds (finite (q .y)) (p1 .0); z = holds (finite (q .z)) (p2 .0) }
+    record { x = of-taken (not-false (finite (q .x)) (p0 .0)); y = of-taken (not-false (finite (q .y)) (p1 .0)); z = of-taken (not-false (finite (q .z)) (p2 .0)) }
 
 pub record FindPassed (s : Sizes) (t : TreeLengths) (q : Point3) : Type 0 where
   pub sizes : Sized s
@@ -164,9 +160,6 @@ rated-passed s fit rate number e =
     let p6 = passed _ _ (p3 .1) in
     let p8 = passed _ _ (p6 .1) in
     record { sizes = sized s (not-false _ (p2 .0)); fits = not-false _ (p3 .0); rated = not-false _ (p6 .0); below = leb-false _ _ (p8 .0) }
-
-pub rate-passed : (rate : Float) → verdictOf (rateLines rate) ≡ Fine → rateOk rate ≡ true
-rate-passed rate e = not-false _ (passed _ _ e .0)
 
 -- each value below n is allowed
 abbrev pub Allowed : ℕ → List Float → ℕ → Type 0

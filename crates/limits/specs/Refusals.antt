@@ -1,6 +1,6 @@
 -- Document 01's "What a call says no to": its table line by line, and for each call the lines that it checks, in order. Definitions only.
 use Prim.Native.Nat.{ℕ, _-_, _%_}
-use mathlib.Core.Bool.{Bool, true, false, not}
+use mathlib.Core.Bool.{Bool, cond, not}
 use mathlib.Core.List.{List, [], _∷_}
 use lib.Dec.{leb, ltb}
 use lib.ListN.{length}
@@ -20,14 +20,10 @@ pub record Check : Type 0 where
   pub met : Bool
   pub place : ℕ
 
-unfoldable pub pickVerdict : Bool → Verdict → Verdict → Verdict
-pickVerdict true a b = a
-pickVerdict false a b = b
-
 -- the first line that is met, else Fine
 unfoldable pub verdictOf : List Check → Verdict
 verdictOf [] = Fine
-verdictOf (c ∷ cs) = pickVerdict (c .met) (Refused (c .number) (c .place)) (verdictOf cs)
+verdictOf (c ∷ cs) = cond (c .met) (Refused (c .number) (c .place)) (verdictOf cs)
 
 -- a verdict as 01's numbers: 0 and 0 for none
 abbrev pub reasonOf : Verdict → ℕ

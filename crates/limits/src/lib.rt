@@ -8,7 +8,7 @@
 //
 // proofs/Passed.antt has what a verdict of Fine gives a caller, proofs/Lines.antt that the verdict
 // is the first line met, proofs/Values.antt that a refused value is the first bad one, and
-// proofs/Ends.antt that allowed values are finite and what f32 the step ranges end at.
+// proofs/Ends.antt that allowed values are finite and which f32 the least angle step is.
 use points::Point3;
 ghost use mathlib.Core.Path.{_≡_};
 ghost use mathlib.Core.Bool.{true};

@@ -1,12 +1,15 @@
 -- What loops and callers cite of `over` and `upto`, and what holds of each of two lists put together. Assumes nothing.
-use mathlib.Core.Path.{_≡_, refl, sym, ap, _∙_}
+use mathlib.Core.Path.{_≡_, refl, sym, ap, subst, _∙_}
+use mathlib.Core.Bool.{Bool, true, false}
 use mathlib.Core.List.{List, [], _∷_, _++_}
 use Prim.Native.Nat.{ℕ, zero, suc, _+_, _≤_, _<_}
 use native.Mathlib.Nat.{le-of-lt}
 use native.Mathlib.Numerals.{add-one}
 use native.Mathlib.Omega.{arith}
-use lib.ListN.{length, take, drop, getD, set, replicate, length-append, length-drop, length-replicate, take-append-drop}
-use lib.Seq.{take-suc, drop-cons, take-at, drop-at, set-at, length-take-le, append-snoc}
+use lib.ListN.{length, take, drop, getD, set, replicate, length-append, length-drop, length-replicate, take-append-drop, List·getD-append}
+use lib.Dec.{ltb}
+use lib.Seq.{getD-at, take-suc, drop-cons, take-at, drop-at, set-at, length-take-le, append-snoc}
+use borrow.Author.Tests.{ltb-true, ltb-false}
 use Rattle.lists.specs.Each.{Each}
 use Rattle.lists.specs.Over.{over, into, upto}
 
@@ -69,6 +72,23 @@ module _ {A : Type 0} where
   unfolding upto
   length-upto f zero = refl
   length-upto f (suc n) = length-append (upto f n) (f n ∷ []) ∙ add-one (length (upto f n)) ∙ ap suc (length-upto f n)
+
+  -- value j of a list of values, and of a lent list whose front they replace
+  pub getD-upto : (f : ℕ → A) (n j : ℕ) (z : A) → j < n → getD (upto f n) j z ≡ f j
+  unfolding upto
+  getD-upto f zero j z h = absurd (omega arith)
+  getD-upto f (suc n) j z h = go (ltb j n) refl (getD-upto f n j z)
+    where
+      go : (b : Bool) → ltb j n ≡ b → (j < n → getD (upto f n) j z ≡ f j) → getD (upto f n ++ (f n ∷ [])) j z ≡ f j
+      go true e ih = let l = ltb-true j n e in List·getD-append (upto f n) (f n ∷ []) z j (let w = length-upto f n in omega arith) ∙ ih l
+      go false e ih =
+          let l = ltb-false j n e in
+          let q : n ≡ j = omega arith in
+          subst (λ (i : ℕ). getD (upto f n ++ (f n ∷ [])) i z ≡ f i) q (getD-at (upto f n) (f n) [] z n (length-upto f n))
+
+  pub getD-over-upto : (f : ℕ → A) (n j : ℕ) (d : List A) (z : A) → j < n → getD (over (upto f n) d) j z ≡ f j
+  unfolding over
+  getD-over-upto f n j d z h = List·getD-append (upto f n) (drop (length (upto f n)) d) z j (let w = length-upto f n in omega arith) ∙ getD-upto f n j z h
 
   -- a turn of any loop that stores f i at i
   pub upto-more : (f : ℕ → A) (n : ℕ) (d : List A) → n < length d → set (over (upto f n) d) n (f n) ≡ over (upto f (n + 1)) d

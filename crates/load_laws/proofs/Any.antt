@@ -35,7 +35,7 @@ use Rattle.loads.specs.Load.{indexed}
 use Rattle.source.specs.Rust.{Option, None, Some, Angles, array}
 use Rattle.source.specs.Coords.{«cartesian_to_spherical», «spherical_to_cartesian», «convert_array_to_spherical», «convert_array_to_cartesian»}
 use Rattle.source.specs.Kdtree.{insert, «is_empty»}
-use Rattle.source.specs.Lookup.{Hrtf, Lookup, find, triplet, unmeasured, measured, measuring, newLookup}
+use Rattle.source.specs.Lookup.{Hrtf, Lookup, find, triplet, noneMeasured, measured, measuring, newLookup}
 use Rattle.source.specs.Hrtf.{«convert_array_to_cartesian_if_spherical», «convert_to_cartesian»}
 use Rattle.source.specs.Neighbors.{Neighbors, otherThan, stepping, «max_steps», «search_direction», «find_neighbors», pushing, defaultNeighbors, newNeighborhood}
 use Rattle.source.specs.Reader.{opened, openedBy, «open_data»}
@@ -238,7 +238,7 @@ module _ (platform : Angles) (A : Agree platform) where
     new-any : newLookup platform h ≡ newLookup ported h
     unfolding newLookup
     new-any = ap (λ (l : Lookup). cond (eqb (length (h .«source_position»)) 0 || not (eqb (h .c) 3)) None (cond («is_empty» (l .kdtree)) None (Some l)))
-        (measuring-any (h .«source_position») (h .c) (h .m) angle radius ok all (h .m) 0 (unmeasured ported) (omega arith))
+        (measuring-any (h .«source_position») (h .c) (h .m) angle radius ok all (h .m) 0 (noneMeasured ported) (omega arith))
 
     by-lookup : (o : Option Lookup) → openedBy platform h angle radius o ≡ openedBy ported h angle radius o
     unfolding openedBy newNeighborhood

@@ -19,7 +19,7 @@ use Rattle.lookup.specs.Build.{linked}
 use Rattle.lookup.proofs.Links.{linked-left, linked-right}
 use Rattle.lookup.specs.Lookup.{clampedBy, locateOf, unless, findOf, movedAs, movedIfFound, findMutOf, pointIn, putPoint}
 use Rattle.mix.specs.Mix.{startOf}
-use Rattle.interpolate.specs.Blend.{Filter, extractOf}
+use Rattle.interpolate.specs.Blend.{FilterAnswer, extractOf}
 use Rattle.delays.specs.Delays.{secondsOf}
 use Rattle.interpolate.specs.Blend as port
 use Rattle.stored.specs.declared.Around.the-variants.{Six}
@@ -49,7 +49,7 @@ use Rattle.load_laws.proofs.Loaded.{says, went, is-loaded}
 use Rattle.load_laws.proofs.Checks.{find-fine, filter-fine, plain-fine, number-fine, response-fine, around-fine, rate-fine}
 
 -- past the checks, at the number found
-past : (v : Verdict) (r : Located) (a b : ℕ) (f : ℕ → Filter) (k : ℕ) → v ≡ Fine → r ≡ At k → allowed v a b (nearestOr r a b f) ≡ f k
+past : (v : Verdict) (r : Located) (a b : ℕ) (f : ℕ → FilterAnswer) (k : ℕ) → v ≡ Fine → r ≡ At k → allowed v a b (nearestOr r a b f) ≡ f k
 unfolding allowed nearestOr
 past v r a b f k e h = ap (λ (w : Verdict). allowed w a b (nearestOr r a b f)) e ∙ ap (λ (z : Located). nearestOr z a b f) h
 

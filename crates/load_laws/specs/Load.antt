@@ -16,7 +16,7 @@ use Rattle.lookup.specs.declared.Lookup.{Lookup}
 use Rattle.lookup.specs.declared.Located.{Located}
 use Rattle.lookup.specs.declared.Located.the-variants.{At}
 use Rattle.lookup.specs.Lookup.{Moved, movedAs, pointIn, putPoint, findOf, findMutOf}
-use Rattle.interpolate.specs.Blend.{Filter}
+use Rattle.interpolate.specs.Blend.{FilterAnswer}
 use Rattle.stored.specs.declared.MaxDelay.the-variants.{Delay}
 use Rattle.stored.specs.declared.Entries.{Entries}
 use Rattle.stored.specs.declared.Around.the-variants.{Six}
@@ -98,14 +98,14 @@ module _ (g : Given) (w : Work) (look : Lookup) where
   abbrev pub portFindMut : List Float → Moved
   portFindMut l = findMutOf look (g .sizes) (w .cartesian) (w .left) (w .right) l
 
-  abbrev pub portFilter : Point3 → source.Filter → Filter
+  abbrev pub portFilter : Point3 → source.Filter → FilterAnswer
   portFilter q out =
       filterSays (g .sizes) look (w .cartesian) (w .left) (w .right) (w .neighbours) (g .responses) (g .delays) (g .rate) q (length (out .left)) (length (out .right))
 
-  abbrev pub portPlain : Point3 → source.Filter → Filter
+  abbrev pub portPlain : Point3 → source.Filter → FilterAnswer
   portPlain q out = plainSays (g .sizes) look (w .cartesian) (w .left) (w .right) (g .responses) (g .delays) (g .rate) q (length (out .left)) (length (out .right))
 
-abbrev pub portNumber : Given → ℕ → source.Filter → Filter
+abbrev pub portNumber : Given → ℕ → source.Filter → FilterAnswer
 portNumber g k out = numberSays (g .sizes) (g .responses) (g .delays) (g .rate) k (length (out .left)) (length (out .right))
 
 -- the source's six as the port answers them

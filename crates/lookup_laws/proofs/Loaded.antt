@@ -1,17 +1,17 @@
 -- THE THEOREMS on a loaded set: its links are those of the bare tree filled in place order, and what that means for a search. Assumes nothing.
 use mathlib.Core.Path.{_≡_, refl, sym, ap, _∙_, subst}
-use mathlib.Core.Bool.{Bool, true, false, cond}
+use mathlib.Core.Bool.{Bool, cond}
 use mathlib.Core.List.{List, [], _∷_, _++_}
 use Prim.Native.Nat.{ℕ, zero, suc, _+_, _*_, _-_, _<_, _≤_}
 use native.Mathlib.Omega.{arith}
 use native.Mathlib.Numerals.{add-one}
-use lib.ListN.{length, getD, set, replicate, length-replicate, List·getD-append}
-use lib.Seq.{set-getD, getD-append-seam}
-use lib.Dec.{T, eqb, ltb, ltb→lt, lt→ltb}
+use lib.ListN.{length, getD, set, replicate, length-replicate}
+use lib.Seq.{set-getD}
+use lib.Dec.{eqb}
 use lib.Ieee.{Float, nan}
 use borrow.Author.Tests.{lt-ltb, ne-eqb}
 use Rattle.lists.specs.Over.{over, upto}
-use Rattle.lists.proofs.Laws.{over-nil, length-over, length-upto, upto-more}
+use Rattle.lists.proofs.Laws.{over-nil, length-over, length-upto, getD-over-upto, upto-more}
 use Rattle.points.specs.declared.Point3.{Point3}
 use Rattle.points.specs.Points.{pointAt}
 use Rattle.kdtree.specs.declared.BoundingBox.{BoundingBox}
@@ -51,21 +51,8 @@ in-place xs c =
 abbrev pub itself : ℕ → ℕ
 itself i = i
 
-getD-upto : (m i : ℕ) → i < m → getD (upto itself m) i 0 ≡ i
-unfolding upto
-getD-upto zero i h = absurd (omega arith)
-getD-upto (suc m) i h = go (ltb i m) (ltb→lt i m) (λ l. lt→ltb i m l) (getD-upto m i)
-  where
-    go : (b : Bool) → (T b → i < m) → (i < m → T b) → (i < m → getD (upto itself m) i 0 ≡ i) → getD (upto itself m ++ (m ∷ [])) i 0 ≡ i
-    go true f g k = List·getD-append (upto itself m) (m ∷ []) 0 i (subst (λ (n : ℕ). i < n) (sym (length-upto itself m)) (f tt)) ∙ k (f tt)
-    go false f g k =
-        let n : (i < m → ⊥) = g in
-        let e : i ≡ m = omega (arith, h) in
-        ap (λ (n : ℕ). getD (upto itself m ++ (m ∷ [])) n 0) (e ∙ sym (length-upto itself m)) ∙ getD-append-seam (upto itself m) m [] 0 ∙ sym e
-
 pub number-at : (m i : ℕ) (d : List ℕ) → i < m → getD (over (upto itself m) d) i 0 ≡ i
-unfolding over
-number-at m i d h = List·getD-append (upto itself m) _ 0 i (subst (λ (k : ℕ). i < k) (sym (length-upto itself m)) h) ∙ getD-upto m i h
+number-at m i d h = getD-over-upto itself m i d 0 h
 
 module _ (xs : List Float) (m : ℕ) (d : Links) (room : Room xs m d) where
   -- ---- the bare tree after n inserts

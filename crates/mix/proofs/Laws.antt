@@ -113,22 +113,23 @@ tail-of : (k : ℕ) (xs d : List Float) → length xs ≡ k → k ≤ length d �
 unfolding tailed
 tail-of k xs d e h = rw (← e) (rw (take-over xs d, length-over xs d (omega arith)))
 
+-- a sample below n, and one from n on
+pub below-on : (f : ℕ → Float) (n i : ℕ) → i < n → below f n i ≡ f i
+below-on f n i h = rw (lt-ltb i n h)
+
+pub below-off : (f : ℕ → Float) (n i : ℕ) → n ≤ i → below f n i ≡ zero32
+below-off f n i h = rw (le-ltb i n h)
+
 pub whole : (f : ℕ → Float) (n k : ℕ) (d : List Float) → k ≤ n → k ≤ length d → ((i : ℕ) → k ≤ i → i < length d → n ≤ i) → tailed k (over (upto f k) d) ≡ outOf f n (length d)
 unfolding outOf
 whole f n k d h g a =
     tail-of k (upto f k) d (length-upto f k) g
-    ∙ ap (λ (l : List Float). l ++ replicate (length d - k) zero32) (upto-same f (below f n) k (λ i q. sym (on i (omega arith))))
-    ∙ sym (upto-const (below f n) zero32 k (length d - k) (λ i p q. off i (a i p (omega arith))))
+    ∙ ap (λ (l : List Float). l ++ replicate (length d - k) zero32) (upto-same f (below f n) k (λ i q. sym (below-on f n i (omega arith))))
+    ∙ sym (upto-const (below f n) zero32 k (length d - k) (λ i p q. below-off f n i (a i p (omega arith))))
     ∙ ap (upto (below f n)) (shorter k (length d) g)
   where
     shorter : (k l : ℕ) → k ≤ l → k + (l - k) ≡ l
     shorter k l h = omega arith
-
-    on : (i : ℕ) → i < n → cond (ltb i n) (f i) zero32 ≡ f i
-    on i q = rw (lt-ltb i n q)
-
-    off : (i : ℕ) → n ≤ i → cond (ltb i n) (f i) zero32 ≡ zero32
-    off i q = rw (le-ltb i n q)
 
 -- ---- the shorter of two
 pub lesser-left : (a b : ℕ) → lesserOf a b ≤ a

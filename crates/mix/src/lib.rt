@@ -46,7 +46,8 @@ pub fn silence(out: &mut [f32], k: usize)
 }
 
 fn mix1(out: &mut [f32], src: &[f32], a: usize, w: f32, n: usize)
-    requires { ⌜ (n ≤ length (now out)) × (a + n ≤ length (now src)) ⌝ }
+    requires { ⌜ (n ≤ length (now out))
+        × (a + n ≤ length (now src)) ⌝ }
     ensures { λ _. ⌜ now (out .exit) ≡ over (upto (Mix.mix1 (now (src .entry)) a w) n) (now (out .entry)) ⌝ }
 {
     let mut i = 0;

@@ -18,14 +18,14 @@ use Rattle.lookup.specs.Lookup.{clampedTo}
 use Rattle.neighbors.specs.Neighbors.{angleCap}
 
 -- a point by the bits of its coordinates, and a measurement
-abbrev at : ℕ → ℕ → ℕ → Point3
-at x y z = record { x = ofBits binary32 x; y = ofBits binary32 y; z = ofBits binary32 z }
+abbrev pointFrom : ℕ → ℕ → ℕ → Point3
+pointFrom x y z = record { x = ofBits binary32 x; y = ofBits binary32 y; z = ofBits binary32 z }
 
 abbrev as-number : ℕ → Point3 → Numbered
 as-number n p = record { number = n; point = p }
 
 abbrev origin : Point3
-origin = at 0 0 0
+origin = pointFrom 0 0 0
 
 -- room for four, in lists and a box that hold nonsense
 unfoldable pub blank : Bare
@@ -58,38 +58,38 @@ p1 = tree [] origin Nothing
 
 -- (0,0,0), (2,0,0), query (1,0,0): 0
 abbrev pub p2 : Row
-p2 = tree (as-number 0 origin ∷ as-number 1 (at 0x40000000 0 0) ∷ []) (at 0x3f800000 0 0) (Number 0)
+p2 = tree (as-number 0 origin ∷ as-number 1 (pointFrom 0x40000000 0 0) ∷ []) (pointFrom 0x3f800000 0 0) (Number 0)
 
 -- the same two inserted in reverse, each keeping its number: 1
 abbrev pub p3 : Row
-p3 = tree (as-number 1 (at 0x40000000 0 0) ∷ as-number 0 origin ∷ []) (at 0x3f800000 0 0) (Number 1)
+p3 = tree (as-number 1 (pointFrom 0x40000000 0 0) ∷ as-number 0 origin ∷ []) (pointFrom 0x3f800000 0 0) (Number 1)
 
 -- (10,0,0), (1,0,0), (-1,0,0), query origin: 1
 abbrev pub p4 : Row
-p4 = tree (as-number 0 (at 0x41200000 0 0) ∷ as-number 1 (at 0x3f800000 0 0) ∷ as-number 2 (at 0xbf800000 0 0) ∷ []) origin (Number 1)
+p4 = tree (as-number 0 (pointFrom 0x41200000 0 0) ∷ as-number 1 (pointFrom 0x3f800000 0 0) ∷ as-number 2 (pointFrom 0xbf800000 0 0) ∷ []) origin (Number 1)
 
 -- (0,0,0), (0,1,0), query (0,1,0): 1
 abbrev pub p5 : Row
-p5 = tree (as-number 0 origin ∷ as-number 1 (at 0 0x3f800000 0) ∷ []) (at 0 0x3f800000 0) (Number 1)
+p5 = tree (as-number 0 origin ∷ as-number 1 (pointFrom 0 0x3f800000 0) ∷ []) (pointFrom 0 0x3f800000 0) (Number 1)
 
 -- (3e38,0,0), (1e38,0,0), query (-3e38,0,0): 0, both distances infinite
 abbrev pub p6a : Row
-p6a = tree (as-number 0 (at 0x7f61b1e6 0 0) ∷ as-number 1 (at 0x7e967699 0 0) ∷ []) (at 0xff61b1e6 0 0) (Number 0)
+p6a = tree (as-number 0 (pointFrom 0x7f61b1e6 0 0) ∷ as-number 1 (pointFrom 0x7e967699 0 0) ∷ []) (pointFrom 0xff61b1e6 0 0) (Number 0)
 
 abbrev pub p6b : Row
-p6b = far (as-number 0 (at 0x7f61b1e6 0 0) ∷ as-number 1 (at 0x7e967699 0 0) ∷ []) (at 0xff61b1e6 0 0)
+p6b = far (as-number 0 (pointFrom 0x7f61b1e6 0 0) ∷ as-number 1 (pointFrom 0x7e967699 0 0) ∷ []) (pointFrom 0xff61b1e6 0 0)
 
 -- P2's tree, NaN query: 0
 abbrev pub p7 : Row
-p7 = tree (as-number 0 origin ∷ as-number 1 (at 0x40000000 0 0) ∷ []) (at 0x7fc00000 0 0) (Number 0)
+p7 = tree (as-number 0 origin ∷ as-number 1 (pointFrom 0x40000000 0 0) ∷ []) (pointFrom 0x7fc00000 0 0) (Number 0)
 
 -- (2,0,0) to (1,0,0)
 abbrev pub p8 : Row
-p8 = clamp (at 0x40000000 0 0) (at 0x3f800000 0 0)
+p8 = clamp (pointFrom 0x40000000 0 0) (pointFrom 0x3f800000 0 0)
 
 -- (0.5,0,0) to (1,0,0)
 abbrev pub p9 : Row
-p9 = clamp (at 0x3f000000 0 0) (at 0x3f800000 0 0)
+p9 = clamp (pointFrom 0x3f000000 0 0) (pointFrom 0x3f800000 0 0)
 
 -- the origin unchanged
 abbrev pub p10 : Row
@@ -97,10 +97,10 @@ p10 = clamp origin origin
 
 -- (3e38,0,0), r infinite, to the origin
 abbrev pub p11a : Row
-p11a = clamp (at 0x7f61b1e6 0 0) origin
+p11a = clamp (pointFrom 0x7f61b1e6 0 0) origin
 
 abbrev pub p11b : Row
-p11b = overflow (at 0x7f61b1e6 0 0)
+p11b = overflow (pointFrom 0x7f61b1e6 0 0)
 
 -- caps: step 2 gives 23, 45 gives 1
 abbrev pub p12a : Row

@@ -18,13 +18,13 @@ use Rattle.lookup.specs.declared.Located.{Located}
 use Rattle.lookup.specs.declared.Located.the-variants.{At, Refused}
 use Rattle.lookup.specs.Lookup.{verdictIn, locateOf, treeLengths}
 use Rattle.mix.specs.Mix.{Sized}
-use Rattle.interpolate.specs.Blend.{TableHolds, Filter, extractOf, interpolateOf}
+use Rattle.interpolate.specs.Blend.{TableHolds, FilterAnswer, extractOf, interpolateOf}
 use Rattle.reader.specs.Queries.{refusedBy, allowed, nearestOr, lengthsOf, filterSays, plainSays, numberSays}
 use Rattle.reader.proofs.Near.{located-below}
 
 -- ---- one way at a time
 
-module _ (v w : Verdict) (ll rl : ℕ) (f : Filter) (e : w ≡ v) where
+module _ (v w : Verdict) (ll rl : ℕ) (f : FilterAnswer) (e : w ≡ v) where
   no : (number place : ℕ) → w ≡ verdict.Refused number place → refusedBy w ll rl ≡ allowed v ll rl f
   unfolding allowed
   no number place h = ap (λ (u : Verdict). refusedBy u ll rl) h ∙ sym (ap (λ (u : Verdict). allowed u ll rl f) (sym e ∙ h))
@@ -33,7 +33,7 @@ module _ (v w : Verdict) (ll rl : ℕ) (f : Filter) (e : w ≡ v) where
   unfolding allowed
   yes h = sym (ap (λ (u : Verdict). allowed u ll rl f) (sym e ∙ h))
 
-module _ (v w : Located) (ll rl : ℕ) (f : ℕ → Filter) (e : w ≡ v) where
+module _ (v w : Located) (ll rl : ℕ) (f : ℕ → FilterAnswer) (e : w ≡ v) where
   lost : (number place : ℕ) (u : Verdict) → w ≡ Refused number place → u ≡ verdictIn w → refusedBy u ll rl ≡ nearestOr v ll rl f
   unfolding nearestOr
   lost number place u h eu = ap (λ (t : Verdict). refusedBy t ll rl) (eu ∙ ap verdictIn h) ∙ sym (ap (λ (t : Located). nearestOr t ll rl f) (sym e ∙ h))
@@ -71,10 +71,10 @@ module _ (s : Sizes) (look : Lookup) (cart : List Float) (left right neigh : Lis
     filter-blend k found e h = (sized s (went .sizes), located-below look (s .m) cart left right q k (went .sizes .some) (sym h ∙ e), (room .plain .tree .cartesian, room .neighbours), room .plain .taps)
 
   module _ (ll rl : ℕ) where
-    abbrev blended : ℕ → Filter
+    abbrev blended : ℕ → FilterAnswer
     blended = interpolateOf (s .m) (s .r) (s .n) resp delays rate ll rl cart neigh q
 
-    abbrev further : Filter
+    abbrev further : FilterAnswer
     further = nearestOr (locateOf look (s .m) cart left right q) ll rl blended
 
     pub filter-refused : (number place : ℕ) → w ≡ verdict.Refused number place → refusedBy w ll rl ≡ filterSays s look cart left right neigh resp delays rate q ll rl
@@ -116,10 +116,10 @@ module _ (s : Sizes) (look : Lookup) (cart : List Float) (left right : List ℕ)
     plain-extract k found e h = (sized s (plain-went .sizes), located-below look (s .m) cart left right q k (plain-went .sizes .some) (sym h ∙ e), plain-room .taps)
 
   module _ (ll rl : ℕ) where
-    abbrev plain-taps : ℕ → Filter
+    abbrev plain-taps : ℕ → FilterAnswer
     plain-taps = extractOf (s .m) (s .r) (s .n) resp delays rate ll rl
 
-    abbrev plain-further : Filter
+    abbrev plain-further : FilterAnswer
     plain-further = nearestOr (locateOf look (s .m) cart left right q) ll rl plain-taps
 
     pub plain-refused : (number place : ℕ) → w ≡ verdict.Refused number place → refusedBy w ll rl ≡ plainSays s look cart left right resp delays rate q ll rl

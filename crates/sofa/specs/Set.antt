@@ -9,7 +9,7 @@ use Rattle.lookup.specs.declared.Lookup.{Lookup}
 use Rattle.lookup.specs.declared.Located.{Located}
 use Rattle.lookup.specs.declared.Located.the-variants as located
 use Rattle.lookup.specs.Lookup.{Moved}
-use Rattle.interpolate.specs.Blend.{Filter}
+use Rattle.interpolate.specs.Blend.{FilterAnswer}
 use Rattle.stored.specs.declared.Part.{Part}
 use Rattle.stored.specs.declared.Part.the-variants as part
 use Rattle.stored.specs.declared.Around.{Around}
@@ -100,5 +100,5 @@ pub record Filtered : Type 0 where
 abbrev pub filteredBy : SofaFiltered → List Float → List Float → Filtered
 filteredBy o l r = record { out = o; left = l; right = r }
 
-abbrev pub filterTold : Filter → Filtered
+abbrev pub filterTold : FilterAnswer → Filtered
 filterTold f = filteredBy (filteredAs (f .answer)) (f .left) (f .right)

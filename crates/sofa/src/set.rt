@@ -179,31 +179,15 @@ pub extern "C" fn sofa_find_mut(
 fn filtered(a: Outcome) -> SofaFiltered
     ensures { λ r. ⌜ r ≡ filteredAs a ⌝ }
 {
-    match a {
-        Outcome::Exact(left, right) => SofaFiltered {
-            reason: 0,
-            place: 0,
-            blended: 0,
-            points: 1,
-            ldelay: left.0,
-            rdelay: right.0,
-        },
-        Outcome::Blended(left, right, points) => SofaFiltered {
-            reason: 0,
-            place: 0,
-            blended: 1,
-            points,
-            ldelay: left.0,
-            rdelay: right.0,
-        },
-        Outcome::Refused(n, p) => SofaFiltered {
-            reason: n,
-            place: p,
-            blended: 0,
-            points: 0,
-            ldelay: 0.0,
-            rdelay: 0.0,
-        },
+    let told = delays::answer_of(a);
+    let blended = if told.blended { 1 } else { 0 };
+    SofaFiltered {
+        reason: told.reason,
+        place: told.place,
+        blended,
+        points: told.points,
+        ldelay: told.left.0,
+        rdelay: told.right.0,
     }
 }
 

@@ -1,6 +1,6 @@
 -- What a host has after `sofa_load`: with reason 0 the source's set, and hears its answers; else its lists as they were (specs/Host.antt). Assumes nothing.
 use mathlib.Core.Path.{_≡_, refl, sym, ap, _∙_, subst}
-use mathlib.Core.Bool.{Bool, true, false}
+use mathlib.Core.Bool.{Bool, true, false, cond}
 use mathlib.Core.List.{List, [], _∷_}
 use Prim.Native.Nat.{ℕ, _<_, _≤_, _+_}
 use native.Mathlib.Omega.{arith}
@@ -11,7 +11,7 @@ use Rattle.points.specs.declared.Point3.{Point3}
 use Rattle.points.specs.Points.{Finite}
 use Rattle.limits.specs.declared.Verdict.{Verdict}
 use Rattle.limits.specs.declared.Verdict.the-variants as verdict
-use Rattle.limits.specs.Refusals.{Check, pickVerdict, verdictOf, reasonOf, placeOf}
+use Rattle.limits.specs.Refusals.{Check, verdictOf, reasonOf, placeOf}
 use Rattle.lookup.specs.declared.Lookup.{Lookup}
 use Rattle.lookup.specs.Lookup.{findOf, findMutOf}
 use Rattle.mix.specs.Mix.{startOf}
@@ -47,8 +47,7 @@ use Rattle.sofa_laws.specs.Host.{heardBy, PartHeard, HearsSource, LoadHe
 
 -- ---- no line of the table has the number 0
 
-one-of : (b : Bool) (n p : ℕ) (v : Verdict) → 0 < n → (reasonOf v ≡ 0 → v ≡ verdict.Fine) → reasonOf (pickVerdict b (verdict.Refused n p) v) ≡ 0 → pickVerdict b (verdict.Refused n p) v ≡ verdict.Fine
-unfolding pickVerdict
+one-of : (b : Bool) (n p : ℕ) (v : Verdict) → 0 < n → (reasonOf v ≡ 0 → v ≡ verdict.Fine) → reasonOf (cond b (verdict.Refused n p) v) ≡ 0 → cond b (verdict.Refused n p) v ≡ verdict.Fine
 one-of true n p v h f e = absurd (omega arith)
 one-of false n p v h f e = f e
 

@@ -38,8 +38,8 @@ triplet «source_pos» offset = array (index «source_pos» offset) (index «sou
 
 module _ (platform : Angles) where
   -- Lookup::new: what its loop starts with, its body, and the loop of k more turns from i on, with its `break`
-  abbrev pub unmeasured : Lookup
-  unmeasured = record { kdtree = newTree; «phi_min» = MAX; «phi_max» = MIN; «theta_min» = MAX; «theta_max» = MIN; «radius_min» = MAX; «radius_max» = MIN }
+  abbrev pub noneMeasured : Lookup
+  noneMeasured = record { kdtree = newTree; «phi_min» = MAX; «phi_max» = MIN; «theta_min» = MAX; «theta_max» = MIN; «radius_min» = MAX; «radius_max» = MIN }
 
   unfoldable pub measured : Lookup → Point3 → ℕ → Lookup
   measured look pos i =
@@ -61,7 +61,7 @@ module _ (platform : Angles) where
 
   unfoldable pub newLookup : Hrtf → Option Lookup
   newLookup hrtf =
-      let look = measuring (hrtf .«source_position») (hrtf .c) (hrtf .m) 0 unmeasured in
+      let look = measuring (hrtf .«source_position») (hrtf .c) (hrtf .m) 0 noneMeasured in
       cond (eqb (length (hrtf .«source_position»)) 0 || not (eqb (hrtf .c) 3)) None (cond («is_empty» (look .kdtree)) None (Some look))
 
 -- Lookup::normalize_radius

@@ -13,7 +13,7 @@ use Rattle.floats.specs.Floats.{zero32}
 use Rattle.mix.specs.declared.Share.{Share}
 use Rattle.mix.specs.Mix.{plusProduct, sums, startOf, tapOf, sampleOf, outOf}
 use Rattle.mix.proofs.Laws as mix
-use Rattle.interpolate.specs.Blend.{part, strideOf, delayAt, plainDelay, blendDelay, Filter, extractOf, blendOf}
+use Rattle.interpolate.specs.Blend.{part, strideOf, delayAt, plainDelay, blendDelay, FilterAnswer, extractOf, blendOf}
 use Rattle.source.specs.Rust.{None, Some}
 use Rattle.source.specs.Lookup.{Hrtf}
 use Rattle.source.specs.Interpolate as source
@@ -76,7 +76,7 @@ module _ (m r n : ℕ) (xs resp delays : List Float) (rate : Float) (small : m �
         let s : sofar .hrtf .«sample_rate» ≡ rate = ap (λ (h : Hrtf). h .«sample_rate») is in
         λ i. record { left = e i; right = g i; ldelay = div binary32 (ha i) (s i); rdelay = div binary32 (hb i) (s i) }
 
-    abbrev Extracted : ℕ → Filter
+    abbrev Extracted : ℕ → FilterAnswer
     Extracted = extractOf m r n resp delays rate (length (out .left)) (length (out .right))
 
     -- THE PLAIN FILTER

@@ -19,14 +19,14 @@ use Rattle.source.specs.Rust.{Option, None, Some, at}
 use Rattle.source.specs.Kdtree as source
 use Rattle.source.specs.Kdtree.{KdNode, kdNode, Link, none, some, newBox, extend, grownBy, insert, «insert_rec», newTree, «is_empty»}
 use Rattle.source.specs.Lookup as looked
-use Rattle.source.specs.Lookup.{triplet, unmeasured, measured, measuring, newLookup}
+use Rattle.source.specs.Lookup.{triplet, noneMeasured, measured, measuring, newLookup}
 use Rattle.source_laws.specs.Drawn.{flat, ported, hrtfOf}
 use Rattle.source_laws.proofs.Turns.{spherical-same}
 use Rattle.source_laws.proofs.Shapes.{flat-new, flat-extend}
 
 -- what the source has after n turns of its loop
 unfoldable pub measuredTo : List Float → ℕ → looked.Lookup
-measuredTo xs zero = unmeasured ported
+measuredTo xs zero = noneMeasured ported
 measuredTo xs (suc n) = measured ported (measuredTo xs n) (pointAt xs n) n
 
 -- ---- the loop
@@ -127,12 +127,12 @@ new-same (suc n) r k xs resp delays rate p h =
     let l : length sp ≡ 3 * suc n = length-take-le (3 * suc n) xs h in
     let z : eqb (length sp) 0 ≡ false = ne-eqb (length sp) 0 (λ q. omega arith) in
     let answer : looked.Lookup → Option looked.Lookup = λ look. cond («is_empty» (look .kdtree)) None (Some look) in
-    ap (λ (c : Bool). cond (c || false) None (answer (measuring ported sp 3 (suc n) 0 (unmeasured ported)))) z
+    ap (λ (c : Bool). cond (c || false) None (answer (measuring ported sp 3 (suc n) 0 (noneMeasured ported)))) z
     ∙ ap answer (all xs (suc n) h)
     ∙ ap (λ (c : Bool). cond c None (Some (measuredTo xs (suc n)))) (not-empty xs n)
   where
-    all : (xs : List Float) (m : ℕ) → 3 * m ≤ length xs → measuring ported (take (3 * m) xs) 3 m 0 (unmeasured ported) ≡ measuredTo xs m
+    all : (xs : List Float) (m : ℕ) → 3 * m ≤ length xs → measuring ported (take (3 * m) xs) 3 m 0 (noneMeasured ported) ≡ measuredTo xs m
     all xs m h =
         let e : 0 + m ≡ m = omega arith in
-        let l : measuring ported (take (3 * m) xs) 3 m 0 (unmeasured ported) ≡ measuredTo xs (0 + m) = unfold measuredTo in loop xs m m 0 h (omega arith) in
+        let l : measuring ported (take (3 * m) xs) 3 m 0 (noneMeasured ported) ≡ measuredTo xs (0 + m) = unfold measuredTo in loop xs m m 0 h (omega arith) in
         l ∙ ap (measuredTo xs) e

@@ -1,19 +1,19 @@
 -- Samples: the source fills a list of n zeros pass by pass and copies it out; the port makes one pass. The same sums in the same order. Assumes nothing.
 use mathlib.Core.Path.{_≡_, refl, sym, ap, _∙_, subst}
-use mathlib.Core.Bool.{Bool, true, false, cond}
+use mathlib.Core.Bool.{Bool, true, false}
 use mathlib.Core.List.{List, _++_}
 use Prim.Native.Nat.{ℕ, zero, suc, _+_, _-_, _<_, _≤_, min}
 use native.Mathlib.Nat.{min-le-left, min-le-right}
 use native.Mathlib.Omega.{arith}
-use lib.Dec.{ltb, eqb}
+use lib.Dec.{eqb}
 use lib.ListN.{length, getD, set, take, replicate, length-set}
 use lib.Seq.{getD-set-same, getD-set-other}
 use lib.Ieee.{Float, nan, binary32, add, mul}
-use borrow.Author.Tests.{lt-ltb, le-ltb, eqb-true, eqb-false}
+use borrow.Author.Tests.{eqb-true, eqb-false}
 use Rattle.floats.specs.Floats.{zero32}
 use Rattle.lists.specs.Over.{upto}
 use Rattle.mix.specs.Mix.{below, outOf}
-use Rattle.mix.proofs.Laws.{upto-same, upto-const, take-upto}
+use Rattle.mix.proofs.Laws.{upto-same, upto-const, take-upto, below-on, below-off}
 use Rattle.source.specs.Rust.{index}
 use Rattle.source.specs.Interpolate.{adding}
 use Rattle.source.specs.Reader.{fillEar}
@@ -27,10 +27,10 @@ ear-same out ir f n e h =
     let kl : k ≤ length ir = min-le-left (length ir) (length out) in
     let kr : k ≤ length out = min-le-right (length ir) (length out) in
     let a : take k ir ≡ upto (λ i. getD ir (0 + i) nan) k = take-upto ir nan 0 k (omega arith) in
-    let b : upto (λ i. getD ir (0 + i) nan) k ≡ upto (below f n) k = upto-same (λ i. getD ir (0 + i) nan) (below f n) k (λ i q. at-start i ∙ h i (omega arith) ∙ sym (on i (omega arith))) in
+    let b : upto (λ i. getD ir (0 + i) nan) k ≡ upto (below f n) k = upto-same (λ i. getD ir (0 + i) nan) (below f n) k (λ i q. at-start i ∙ h i (omega arith) ∙ sym (below-on f n i (omega arith))) in
     let c : k + (length out - k) ≡ length out = omega arith in
     ap (λ (l : List Float). l ++ replicate (length out - k) zero32) (a ∙ b)
-    ∙ sym (upto-const (below f n) zero32 k (length out - k) (λ i p q. off i (past (length ir) (length out) i p (omega arith) e)))
+    ∙ sym (upto-const (below f n) zero32 k (length out - k) (λ i p q. below-off f n i (past (length ir) (length out) i p (omega arith) e)))
     ∙ ap (upto (below f n)) c
   where
     at-start : (i : ℕ) → getD ir (0 + i) nan ≡ getD ir i nan
@@ -38,12 +38,6 @@ ear-same out ir f n e h =
 
     past : (a b i : ℕ) → min a b ≤ i → i < b → a ≡ n → n ≤ i
     past a b i p q r = omega arith
-
-    on : (i : ℕ) → i < n → cond (ltb i n) (f i) zero32 ≡ f i
-    on i q = rw (lt-ltb i n q)
-
-    off : (i : ℕ) → n ≤ i → cond (ltb i n) (f i) zero32 ≡ zero32
-    off i q = rw (le-ltb i n q)
 
 -- ---- one pass
 

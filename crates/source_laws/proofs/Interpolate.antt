@@ -12,7 +12,7 @@ use Rattle.floats.specs.Floats.{zero32, one32}
 use Rattle.points.specs.declared.Point3.{Point3}
 use Rattle.mix.specs.declared.Share.{Share}
 use Rattle.interpolate.specs.Blend as port
-use Rattle.interpolate.specs.Blend.{close32, tiny32, distanceOf, entryOf, known, allKnown, neighborsOf, pairOf, pointsOf, totalFrom, totalOf, part, Filter, filterOf, blendDelay, pickFilter, extractOf, blendOf, weighedOf, interpolateOf, refusedOf}
+use Rattle.interpolate.specs.Blend.{close32, tiny32, distanceOf, entryOf, known, allKnown, neighborsOf, pairOf, pointsOf, totalFrom, totalOf, part, FilterAnswer, filterOf, blendDelay, extractOf, blendOf, weighedOf, interpolateOf, refusedOf}
 use Rattle.delays.specs.declared.Outcome.the-variants.{Blended}
 use Rattle.delays.specs.Delays.{secondsOf}
 use Rattle.interpolate_laws.specs.Weights.{AllFinite}
@@ -57,16 +57,15 @@ module _ (m r n : ℕ) (xs resp delays : List Float) (rate : Float) (small : m �
   set = hrtfOf m r n xs resp delays rate
 
   -- one of two, on either side
-  either : (g : Bool) (a b : Option InterpolatedFilter) (u v : Filter) → filledOr sofar out a ≡ heard u → filledOr sofar out b ≡ heard v
-      → filledOr sofar out (cond g a b) ≡ heard (pickFilter g u v)
-  unfolding pickFilter
+  either : (g : Bool) (a b : Option InterpolatedFilter) (u v : FilterAnswer) → filledOr sofar out a ≡ heard u → filledOr sofar out b ≡ heard v
+      → filledOr sofar out (cond g a b) ≡ heard (cond g u v)
   either true a b u v e f = e
   either false a b u v e f = f
 
-  abbrev plain : ℕ → Filter
+  abbrev plain : ℕ → FilterAnswer
   plain = extractOf m r n resp delays rate (length (out .left)) (length (out .right))
 
-  abbrev mixed : List Share → Filter
+  abbrev mixed : List Share → FilterAnswer
   mixed = blendOf m r n resp delays rate (length (out .left)) (length (out .right))
 
   module _ (q : Point3) (k : ℕ) (hk : k < m) (finite : AllFinite m xs q) (s : Neighbors) (six : SixIn m s) where
@@ -123,7 +122,7 @@ module _ (m r n : ℕ) (xs resp delays : List Float) (rate : Float) (small : m �
         (extract-same m r n xs resp delays rate small long two taps sofar is out k hk)
         (blend-same m r n xs resp delays rate small long two taps sofar is out (totalOf ps) all all-in ∙ ap (λ (l : List Share). heard (mixed (map (part (totalOf ps)) l))) points-same)
 
-    abbrev weighed : port.Neighbors → Filter
+    abbrev weighed : port.Neighbors → FilterAnswer
     weighed z = weighedOf m r n resp delays rate (length (out .left)) (length (out .right)) k (pointsOf d z k)
 
     -- the source past its tests, at the distance x
@@ -142,12 +141,12 @@ module _ (m r n : ℕ) (xs resp delays : List Float) (rate : Float) (small : m �
         ∙ ap (λ (o : Option Neighbors). past o (d k)) eg
 
     port-opens : (near : List ℕ) → neighborsOf near k ≡ enteredAll s
-        → interpolateOf m r n resp delays rate (length (out .left)) (length (out .right)) xs near q k ≡ pickFilter (lt (d k) close32) (plain k) (weighed (enteredAll s))
-    unfolding interpolateOf pickFilter
+        → interpolateOf m r n resp delays rate (length (out .left)) (length (out .right)) xs near q k ≡ cond (lt (d k) close32) (plain k) (weighed (enteredAll s))
+    unfolding interpolateOf
     port-opens near en =
         let no = refusedOf 9 0 (length (out .left)) (length (out .right)) in
-        ap (λ (z : port.Neighbors). pickFilter (lt (d k) close32) (plain k) (pickFilter (allKnown m z) (weighed z) no)) en
-        ∙ ap (λ (b : Bool). pickFilter (lt (d k) close32) (plain k) (pickFilter b (weighed (enteredAll s)) no)) (all-known m s small six)
+        ap (λ (z : port.Neighbors). cond (lt (d k) close32) (plain k) (cond (allKnown m z) (weighed z) no)) en
+        ∙ ap (λ (b : Bool). cond (lt (d k) close32) (plain k) (cond b (weighed (enteredAll s)) no)) (all-known m s small six)
 
     -- THE FILTER QUERY, its nearest measurement known
     pub interpolate-same : (table : List Neighbors) (near : List ℕ) → get table k ≡ Some s → neighborsOf near k ≡ enteredAll s
@@ -187,15 +186,15 @@ module _ (m r n : ℕ) (xs resp delays : List Float) (rate : Float) (small : m �
         → interpolateOf m r n resp delays rate (length (out .left)) (length (out .right)) xs near q k
         ≡ told (wayOf set table k q) (heard (interpolateOf m r n resp delays rate (length (out .left)) (length (out .right)) xs near q k))
     told-same table near eg en =
-        port-opens near en ∙ opens ∙ ap (λ (w : Way). told w (heard here)) (sym (way-here table eg)) ∙ ap (λ (f : Filter). told (wayOf set table k q) (heard f)) (sym (port-opens near en))
+        port-opens near en ∙ opens ∙ ap (λ (w : Way). told w (heard here)) (sym (way-here table eg)) ∙ ap (λ (f : FilterAnswer). told (wayOf set table k q) (heard f)) (sym (port-opens near en))
       where
         ps : List Share
         ps = pointsOf d (enteredAll s) k
 
-        here : Filter
-        here = pickFilter (lt (d k) close32) (plain k) (weighed (enteredAll s))
+        here : FilterAnswer
+        here = cond (lt (d k) close32) (plain k) (weighed (enteredAll s))
 
-        blend : Filter
+        blend : FilterAnswer
         blend = mixed (map (part (totalOf ps)) ps)
 
         plain-told : plain k ≡ told exactly (heard (plain k))
@@ -207,10 +206,10 @@ module _ (m r n : ℕ) (xs resp delays : List Float) (rate : Float) (small : m �
         blend-told : blend ≡ told (blending all) (heard blend)
         blend-told = unfold blendOf in ap (λ (c : ℕ). filterOf (Blended (secondsOf (blendDelay delays m r 0 (map (part (totalOf ps)) ps)) rate) (secondsOf (blendDelay delays m r 1 (map (part (totalOf ps)) ps)) rate) c) (blend .left) (blend .right)) as-many
 
-        by-tests : (g h : Bool) → pickFilter g (plain k) (pickFilter h (plain k) blend) ≡ told (cond g exactly (cond h exactly (blending all))) (heard (pickFilter g (plain k) (pickFilter h (plain k) blend)))
-        by-tests true h = unfold pickFilter in plain-told
-        by-tests false true = unfold pickFilter in plain-told
-        by-tests false false = unfold pickFilter in blend-told
+        by-tests : (g h : Bool) → cond g (plain k) (cond h (plain k) blend) ≡ told (cond g exactly (cond h exactly (blending all))) (heard (cond g (plain k) (cond h (plain k) blend)))
+        by-tests true h = plain-told
+        by-tests false true = plain-told
+        by-tests false false = blend-told
 
         opens : here ≡ told (wayHere (d k)) (heard here)
         opens = unfold weighedOf wayBy source.points in

@@ -78,8 +78,8 @@ module _ (xs : List Float) (m : ℕ) (small : m ≤ 16384) (long : 3 * m ≤ len
   abbrev Same : Closer → Closest → Type 0
   Same b c = Twin (b .«best_idx») (b .«best_dist») c
 
-  wins : (k : ℕ) (b : Closer) (c : Closest) → Same b c → Same (cond (lt (d k) (b .«best_dist»)) (record { «best_idx» = Some k; «best_dist» = d k }) b) (blend.closer d c k)
-  unfolding blend.closer
+  wins : (k : ℕ) (b : Closer) (c : Closest) → Same b c → Same (cond (lt (d k) (b .«best_dist»)) (record { «best_idx» = Some k; «best_dist» = d k }) b) (blend.closerOf d c k)
+  unfolding blend.closerOf
   wins k b c t = subst (λ (x : Float). Same (cond (lt (d k) x) won b) (cond (lt (d k) (least c)) (port.At k (d k)) c)) (sym (least-same (b .«best_idx») (b .«best_dist») c t)) (go (lt (d k) (least c)))
     where
       won : Closer

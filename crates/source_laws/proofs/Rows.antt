@@ -1,16 +1,13 @@
 -- A row of the neighbour table: its six entries stand for the source's six. Assumes nothing.
-use mathlib.Core.Path.{_≡_, refl, ap, _∙_, subst}
-use mathlib.Core.List.{List, [], _∷_, _++_}
-use mathlib.Core.Bool.{Bool, true, false}
-use Prim.Native.Nat.{ℕ, zero, suc, _+_, _*_, _/_, _%_, _<_, _≤_}
+use mathlib.Core.Path.{_≡_, ap, _∙_}
+use mathlib.Core.List.{List}
+use mathlib.Core.Bool.{true}
+use Prim.Native.Nat.{ℕ, suc, _+_, _*_, _/_, _%_, _<_, _≤_}
 use native.Mathlib.Omega.{arith}
-use lib.Dec.{ltb}
-use lib.ListN.{length, getD, drop, List·getD-append}
-use lib.Seq.{getD-at}
+use lib.ListN.{getD}
 use lib.Ieee.{Float}
-use borrow.Author.Tests.{ltb-true, ltb-false}
 use Rattle.lists.specs.Over.{over, upto}
-use Rattle.lists.proofs.Laws.{length-upto}
+use Rattle.lists.proofs.Laws.{getD-over-upto}
 use Rattle.limits.specs.Allowed.{angleStepOk}
 use Rattle.interpolate.specs.Blend.{neighborsOf}
 use Rattle.source.specs.Neighbors.{Neighbors}
@@ -18,22 +15,6 @@ use Rattle.source_laws.specs.Drawn.{entered, sixth, enteredAll}
 use Rattle.source_laws.proofs.Linked.{Holds}
 use Rattle.source_laws.proofs.Table.{six, entryAt, six-same}
 use Rattle.source_laws.proofs.Interpolate.{SixIn}
-
-getD-upto : (f : ℕ → ℕ) (n j : ℕ) → j < n → getD (upto f n) j 0 ≡ f j
-unfolding upto
-getD-upto f zero j h = absurd (omega arith)
-getD-upto f (suc n) j h = go (ltb j n) refl (getD-upto f n j)
-  where
-    go : (b : Bool) → ltb j n ≡ b → (j < n → getD (upto f n) j 0 ≡ f j) → getD (upto f n ++ (f n ∷ [])) j 0 ≡ f j
-    go true e ih = let l = ltb-true j n e in List·getD-append (upto f n) (f n ∷ []) 0 j (let z = length-upto f n in omega arith) ∙ ih l
-    go false e ih =
-        let l = ltb-false j n e in
-        let q : n ≡ j = omega arith in
-        subst (λ (i : ℕ). getD (upto f n ++ (f n ∷ [])) i 0 ≡ f i) q (getD-at (upto f n) (f n) [] 0 n (length-upto f n))
-
-pub getD-over : (f : ℕ → ℕ) (n j : ℕ) (d : List ℕ) → j < n → getD (over (upto f n) d) j 0 ≡ f j
-unfolding over
-getD-over f n j d h = List·getD-append (upto f n) (drop (length (upto f n)) d) 0 j (let z = length-upto f n in omega arith) ∙ getD-upto f n j h
 
 module _ (xs : List Float) (n : ℕ) (small : suc n ≤ 16384) (left right : List ℕ) (h : Holds xs n left right) (angle radius : Float) (ok : angleStepOk angle ≡ true) where
   abbrev ours : ℕ → Neighbors
@@ -49,7 +30,7 @@ module _ (xs : List Float) (n : ℕ) (small : suc n ≤ 16384) (left right : Lis
       ap (λ (i : ℕ). entered (sixth (ours i) ((6 * k + j) % 6))) a ∙ ap (λ (i : ℕ). entered (sixth (ours k) i)) b
 
   cell : (d : List ℕ) (k j : ℕ) → k < suc n → j < 6 → getD (over (upto entries (6 * suc n)) d) (6 * k + j) 0 ≡ entered (sixth (ours k) j)
-  cell d k j a b = getD-over entries (6 * suc n) (6 * k + j) d (omega arith) ∙ entry-here k j b
+  cell d k j a b = getD-over-upto entries (6 * suc n) (6 * k + j) d 0 (omega arith) ∙ entry-here k j b
 
   pub row-same : (d : List ℕ) (k : ℕ) → k < suc n → neighborsOf (over (upto entries (6 * suc n)) d) k ≡ enteredAll (ours k)
   unfolding sixth

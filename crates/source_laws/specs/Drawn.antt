@@ -15,7 +15,7 @@ use Rattle.source.specs.Neighbors.{Neighbors}
 use Rattle.source.specs.Reader as reader
 use Rattle.delays.specs.Delays.{answerOf}
 use Rattle.interpolate.specs.Blend as port
-use Rattle.interpolate.specs.Blend.{Filter}
+use Rattle.interpolate.specs.Blend.{FilterAnswer}
 use Rattle.source.specs.Kdtree as source
 use Rattle.source.specs.Kdtree.{Link, kdNode, none, some}
 
@@ -77,5 +77,5 @@ enteredAll s = record {
 }
 
 -- what a filter query leaves, as the source's `Filter`: both outputs, and the two delays in seconds (+0 where it is refused)
-abbrev pub heard : Filter → reader.Filter
+abbrev pub heard : FilterAnswer → reader.Filter
 heard f = record { left = f .left; right = f .right; ldelay = answerOf (f .answer) .left .0; rdelay = answerOf (f .answer) .right .0 }

@@ -17,7 +17,7 @@ use Rattle.lookup.specs.declared.Located.the-variants.{At}
 use Rattle.lookup.specs.Build.{Links, lookupOf, buildOf}
 use Rattle.lookup.specs.Lookup.{clampedBy, locateOf}
 use Rattle.neighbors.specs.Neighbors.{tableOf}
-use Rattle.interpolate.specs.Blend.{neighborsOf, Filter, extractOf, interpolateOf}
+use Rattle.interpolate.specs.Blend.{neighborsOf, FilterAnswer, extractOf, interpolateOf}
 use Rattle.source.specs.Rust.{Some}
 use Rattle.source.specs.Kdtree as source
 use Rattle.source.specs.Lookup.{Hrtf, «normalize_radius», find, «find_mut»}
@@ -69,10 +69,10 @@ hrtf s = hrtfOf (s .m) (s .r) (s .n) (s .cartesian) (s .responses) (s .delays) (
 abbrev pub look : Set → Lookup
 look s = lookupOf (s .cartesian) (s .m)
 
-abbrev pub blend : Set → reader.Filter → Point3 → ℕ → Filter
+abbrev pub blend : Set → reader.Filter → Point3 → ℕ → FilterAnswer
 blend s out q k = interpolateOf (s .m) (s .r) (s .n) (s .responses) (s .delays) (s .rate) (length (out .left)) (length (out .right)) (s .cartesian) (s .neighbours) q k
 
-abbrev pub plain : Set → reader.Filter → ℕ → Filter
+abbrev pub plain : Set → reader.Filter → ℕ → FilterAnswer
 plain s out k = extractOf (s .m) (s .r) (s .n) (s .responses) (s .delays) (s .rate) (length (out .left)) (length (out .right)) k
 
 pub record SameAsSource (s : Set) : Type 0 where

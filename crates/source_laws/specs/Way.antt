@@ -8,7 +8,7 @@ use lib.Ieee.{Float, lt}
 use Rattle.points.specs.declared.Point3.{Point3}
 use Rattle.delays.specs.declared.Outcome.{Outcome}
 use Rattle.delays.specs.declared.Outcome.the-variants.{Exact, Blended}
-use Rattle.interpolate.specs.Blend.{Filter, filterOf}
+use Rattle.interpolate.specs.Blend.{FilterAnswer, filterOf}
 use Rattle.source.specs.Rust.{Option, None, Some}
 use Rattle.source.specs.Lookup.{Hrtf, triplet}
 use Rattle.source.specs.Neighbors.{Neighbors, get}
@@ -48,5 +48,5 @@ outcomeBy exactly left right = Exact (record { 0 = left }) (record { 0 = right }
 outcomeBy (blending l) left right = Blended (record { 0 = left }) (record { 0 = right }) (length l)
 
 -- what a filter query of the port leaves, by the `Filter` that the source fills
-abbrev pub told : Way → reader.Filter → Filter
+abbrev pub told : Way → reader.Filter → FilterAnswer
 told way f = filterOf (outcomeBy way (f .ldelay) (f .rdelay)) (f .left) (f .right)

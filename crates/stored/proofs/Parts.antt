@@ -1,8 +1,7 @@
 -- A measurement's taps lie inside the response list, its entries inside the table; and the longest delay, one delay at a time. Assumes nothing.
-use Prim.Native.Nat.{ℕ, suc, _+_, _-_, _*_, _≤_, _<_}
+use Prim.Native.Nat.{ℕ, _+_, _-_, _*_, _≤_, _<_}
 use mathlib.Core.Path.{_≡_, refl, sym, ap, _∙_}
 use mathlib.Core.List.{List, []}
-use native.Mathlib.Nat.{mul-le-mul-right, suc-mul}
 use native.Mathlib.Numerals.{add-one}
 use native.Mathlib.Omega.{arith}
 use lib.ListN.{length, take, drop, getD}
@@ -16,6 +15,7 @@ use Rattle.limits.specs.Allowed.{responsesFit, neighboursFit}
 use Rattle.limits.specs.Refusals.{verdictOf, numberLines, rateLines}
 use Rattle.limits.proofs.Passed as passed
 use Rattle.mix.specs.Mix.{startOf}
+use Rattle.mix.proofs.Laws.{inside}
 use Rattle.stored.specs.declared.Part.{Part}
 use Rattle.stored.specs.declared.Part.the-variants as part
 use Rattle.stored.specs.declared.Entries.{Entries}
@@ -27,11 +27,6 @@ use Rattle.stored.specs.declared.MaxDelay.the-variants.{Delay, Refused}
 use Rattle.stored.specs.Longest.{greatest, longestOf, maxBy, maxDelayOf}
 
 -- ---- taps
-
-inside : (m r n i e : ℕ) → i < m → 2 ≤ r → e ≤ 1 → (i * r + e) * n + n ≤ m * r * n
-inside m r n i e hi hr he =
-    let h : suc (i * r + e) ≤ m * r = omega (arith, suc-mul i r, mul-le-mul-right r hi) in
-    omega (arith, suc-mul (i * r + e) n, mul-le-mul-right n h)
 
 abbrev from : Part → ℕ
 from (part.Taps a n) = a
@@ -63,13 +58,13 @@ module _ (s : Sizes) (len number e : ℕ) where
 
   -- where the taps end
   pub part-ends : (w : Part) (a n : ℕ) → w ≡ partOf s len number e → w ≡ part.Taps a n → e ≤ 1 → a + n ≤ len
-  unfolding partOf startOf
+  unfolding partOf
   part-ends w a n ew h he = go lines refl (sym h ∙ ew)
     where
       go : (u : Verdict) → u ≡ lines → part.Taps a n ≡ partBy u (startOf (s .r) (s .n) e number) (s .n) → a + n ≤ len
       go verdict.Fine eu z =
           let g = passed.number-passed s (responsesFit s len) number (sym eu) in
-          let ea : a ≡ (number * s .r + e) * s .n = ap from z in
+          let ea : a ≡ startOf (s .r) (s .n) e number = ap from z in
           let en : n ≡ s .n = ap count z in
           let room = passed.responses-room s len (g .fits) in
           omega (arith, ea, en, room, inside (s .m) (s .r) (s .n) number e (g .below) (g .sizes .ears) he)

@@ -80,62 +80,19 @@ fn loads_kind() {
     load(0, 2, l, p, 0x3f00_0000, 0x3c23_d70a, 0x473b_8000);
 }
 
-fn loads_lists() {
+// Lists of these lengths, with all else allowed.
+fn over(l: Lengths) {
     let p = point(0x3f80_0000, 0x0000_0000, 0x0000_0000);
-    load(
-        0,
-        1,
-        lent(2, 1, 1, 2, 6),
-        p,
-        0x3f00_0000,
-        0x3c23_d70a,
-        0x473b_8000,
-    );
-    load(
-        0,
-        1,
-        lent(3, 0, 1, 2, 6),
-        p,
-        0x3f00_0000,
-        0x3c23_d70a,
-        0x473b_8000,
-    );
-    load(
-        0,
-        1,
-        lent(3, 1, 0, 2, 6),
-        p,
-        0x3f00_0000,
-        0x3c23_d70a,
-        0x473b_8000,
-    );
-    load(
-        0,
-        1,
-        lent(3, 1, 1, 1, 6),
-        p,
-        0x3f00_0000,
-        0x3c23_d70a,
-        0x473b_8000,
-    );
-    load(
-        0,
-        1,
-        lent(3, 1, 1, 2, 5),
-        p,
-        0x3f00_0000,
-        0x3c23_d70a,
-        0x473b_8000,
-    );
-    load(
-        0,
-        1,
-        lent(4, 2, 2, 3, 7),
-        p,
-        0x3f00_0000,
-        0x3c23_d70a,
-        0x473b_8000,
-    );
+    load(0, 1, l, p, 0x3f00_0000, 0x3c23_d70a, 0x473b_8000);
+}
+
+fn loads_lists() {
+    over(lent(2, 1, 1, 2, 6));
+    over(lent(3, 0, 1, 2, 6));
+    over(lent(3, 1, 0, 2, 6));
+    over(lent(3, 1, 1, 1, 6));
+    over(lent(3, 1, 1, 2, 5));
+    over(lent(4, 2, 2, 3, 7));
 }
 
 // A position value, with all else allowed.

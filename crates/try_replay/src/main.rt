@@ -624,6 +624,13 @@ fn asked(
     by_numbers(w, s, g, neighbours, responses, delays)
 }
 
+// The first left link as the tape has it, where it gives one.
+fn relink(link: u32, left: &mut [u16; 8]) {
+    if link < 65536 {
+        left[0] = link as u16;
+    }
+}
+
 // A load and what follows from it.
 fn over_lists(
     w: &[u32],
@@ -658,10 +665,7 @@ fn over_lists(
         &neighbours,
         &cartesian,
     ));
-    let link = word(w, loaded.at);
-    if link < 65536 {
-        left[0] = link as u16;
-    }
+    relink(word(w, loaded.at), &mut left);
     asked(
         w,
         moved(loaded, 1),

@@ -7,7 +7,7 @@ use lib.ListN.{length}
 use lib.Ieee.{Float}
 use denote.Ref.{now}
 use Rattle.lists.specs.Over.{over}
-use Rattle.interpolate.specs.Blend.{Filter}
+use Rattle.interpolate.specs.Blend.{FilterAnswer}
 use Rattle.lookup.specs.declared.Located.{Located}
 use Rattle.loads.specs.Load.{workOf}
 use Rattle.blocks.specs.Blocks.{blockOf}
@@ -53,8 +53,8 @@ returns c =
     let b = c .before .before .block in
     let d = workOf (now (a .left)) (now (a .right)) (now (a .neighbours)) (now (a .cartesian)) in
     let e : blockOf (f .result) (k .result) (f .last .1 .1 .1 .1 .1 .1 .1 .1 .1 .0) (f .last .1 .1 .1 .1 .1 .1 .1 .1 .1 .1 .0) ≡ answerBlock (a .s) (a .look) d (now (a .responses)) (now (a .delays)) (a .q) =
-    ap (λ (t : Filter). blockFor t (k .result)) (f .ensures) ∙ ap (λ (n : Located). blockFor (filteredOf (a .s) (a .look) d (now (a .responses)) (now (a .delays)) (a .q)) n) (k .ensures) in
-    same (b .ensures .0 ∙ ap length e) (b .ensures .1 ∙ ap (λ (t : List ℕ). over t (now (a .out))) e) (ap (λ (t : Filter). t .left) (f .ensures)) (ap (λ (t : Filter). t .right) (f .ensures))
+    ap (λ (t : FilterAnswer). blockFor t (k .result)) (f .ensures) ∙ ap (λ (n : Located). blockFor (filteredOf (a .s) (a .look) d (now (a .responses)) (now (a .delays)) (a .q)) n) (k .ensures) in
+    same (b .ensures .0 ∙ ap length e) (b .ensures .1 ∙ ap (λ (t : List ℕ). over t (now (a .out))) e) (ap (λ (t : FilterAnswer). t .left) (f .ensures)) (ap (λ (t : FilterAnswer). t .right) (f .ensures))
 
 pub answer-spec : {M : Type 1} → statement M
 answer-spec =

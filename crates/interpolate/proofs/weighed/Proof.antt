@@ -8,16 +8,16 @@ use Rattle.interpolate.proofs.weighed.Statement.{statement}
 use Rattle.interpolate.proofs.weighed.Tie as tie
 
 held-requires : tie.Need-held-requires
-held-requires c κs = c .before .pre .2
+held-requires c κs = c .before .pre .2 .0
 
 held-requires-2 : tie.Need-held-requires-2
-held-requires-2 c κs = c .before .before .before .pre .3
+held-requires-2 c κs = c .before .before .before .pre .2 .1
 
 held-requires-3 : tie.Need-held-requires-3
-held-requires-3 c κs = c .before .before .before .before .before .pre .4
+held-requires-3 c κs = c .before .before .before .before .before .pre .2 .2
 
 held-requires-4 : tie.Need-held-requires-4
-held-requires-4 c κs = c .before .before .before .before .before .before .before .pre .5
+held-requires-4 c κs = c .before .before .before .before .before .before .before .pre .2 .3
 
 returns : tie.Need-returns
 unfolding ofBits
