@@ -10,6 +10,7 @@ LIBDIR ?= $(PREFIX)/lib
 INCLUDEDIR ?= $(PREFIX)/include
 DOCDIR ?= $(PREFIX)/share/doc/bondaskrig
 DESTDIR ?=
+$(foreach v,PREFIX LIBDIR INCLUDEDIR DOCDIR DESTDIR,$(if $(word 2,$($(v))),$(error $(v) must not have a space in it: $($(v)))))
 
 SHELL := bash
 version := $(shell . .ci/steps && header_version)

@@ -1,10 +1,12 @@
 // SPDX-License-Identifier: MIT OR Apache-2.0
-//! The folders of the archive and of the header are handed on.
-use std::{env, path::Path};
+//! The folders of the archive and of the header are handed on: those that the test wants.
+use std::{env, path::PathBuf};
 
 fn main() {
-    for (key, file) in [("DEP_SOFA_ROOT", "libsofa.a"), ("DEP_SOFA_INCLUDE", "sofa.h")] {
-        let dir = env::var(key).expect(key);
-        assert!(Path::new(&dir).join(file).is_file(), "{key} is {dir}, where no {file} is");
+    for key in ["ROOT", "INCLUDE"] {
+        println!("cargo:rerun-if-env-changed=WANTED_{key}");
+        let folder = |name: String| PathBuf::from(env::var_os(&name).unwrap_or_else(|| panic!("{name} is not said")));
+        let (told, wanted) = (folder(format!("DEP_SOFA_{key}")), folder(format!("WANTED_{key}")));
+        assert_eq!(told, wanted.canonicalize().unwrap_or(wanted), "DEP_SOFA_{key}");
     }
 }
