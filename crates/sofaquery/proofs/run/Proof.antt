@@ -108,7 +108,7 @@ loop-again-2 c =
     let used : l .went .have ≤ l .went .at = c .before .before .before .before .before .if2 .left in
     let going : goesOn (l .went .flow) ≡ true = sym (c .before .before .before .before .before .before .before .before .goes-on .ensures) ∙ c .before .before .before .before .before .before .before .if1 .taken in
     let place : Run → ListsHeld = λ r. here r (l .buf) (l .positions) (l .responses) (l .delays) (l .left) (l .right) (l .neighbours) (l .cartesian) (l .out-left) (l .out-right) (l .out) in
-    (subst Sound (sym (read-run _ _ _ e)) (l .inv .0), read-have _ _ _ e, search needs, chunk-more _ _ fewer _ (l .chunk) _ _ room _ (l .inv .3) going used place _ refl got bytes (answered _ _ (l .inv .2) (c .before .before .before .read .ensures)) _ e)
+    (subst Sound (sym (read-run _ _ _ e)) (l .inv .0), read-have _ _ _ e, search needs, chunk-more _ _ fewer _ (l .chunk) _ _ room _ (l .inv .3) going used place _ refl got bytes (answered (length (l .chunk)) (c .before .before .before .read .result) (l .inv .2) (c .before .before .before .read .ensures)) _ e)
 
 returns : tie.Need-returns Inv-loop μ-loop
 returns c =

@@ -16,7 +16,7 @@ write-all-requires : tie.Need-write-all-requires
 write-all-requires c κs = search needs
 
 returns-2 : tie.Need-returns-2
-returns-2 c = λ e. absurd (c .before .before .before .if1 .left e)
+returns-2 c = λ e. absurd (c .before .before .if1 .left e)
 
 pub write-spec : {M : Type 1} → statement M
 write-spec = tie.close (tie.spec returns slice-aggregate-write-all write-all-requires returns-2)
