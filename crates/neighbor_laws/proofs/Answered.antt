@@ -24,8 +24,9 @@ use Rattle.limits.specs.Allowed.{nearest32, within, angleStepOk}
 use Rattle.limits.proofs.Ends.{angle-step-finite}
 use Rattle.coords.specs.declared.Spherical.{Spherical}
 use Rattle.coords.specs.Coords.{full32}
+use Rattle.coords.specs.Moderate.{Moderate}
 use Rattle.coord_laws.proofs.Size.{Small, small-wider, small-round, small-mul, small-mul-neg, small-add, between-small}
-use Rattle.coord_laws.proofs.Inside.{Inside, small-within}
+use Rattle.coord_laws.proofs.Inside.{small-within}
 use Rattle.coord_laws.proofs.Answered.{turn-answered, azimuth-small, elevation-small, spherical-answered}
 use Rattle.neighbors.specs.Neighbors.{after, tilted, moved, stepOf, angleCap, capOf}
 use Rattle.neighbor_laws.specs.Answered.{looks, SearchAnswered}
@@ -71,6 +72,7 @@ module _ (m : ℕ) (e : ℤ) (some : 0 < m) where
 
 -- a whole number s
 whole-small : (w : Float) (s : ℕ) → HasValue w false s 1 → s ≤ 450 → Small (nearest32 450 1) w
+unfolding absOf
 whole-small nan s v h = absurd v
 whole-small (inf t) s v h = absurd v
 whole-small (fin true k g) s v h = absurd (subst T (v .0) tt)
@@ -112,7 +114,7 @@ back angle ok s h =
     small-mul-neg binary32 (nearest32 90 1) angle (ofInt binary32 (pos s)) tt (angle-step-finite angle ok) (whole-small (ofInt binary32 (pos s)) s (whole s (omega arith)) (omega arith) .held) (forth angle ok s h)
 
 still : (s : ℕ) → s ≤ 450 → Small (nearest32 90 1) (mul binary32 zero32 (ofInt binary32 (pos s)))
-unfolding mul round le lt eq
+unfolding mul round le lt eq absOf
 still s h = small-mul binary32 zero32 (nearest32 450 1) (nearest32 90 1) zero32 (ofInt binary32 (pos s)) tt tt tt tt (record { held = tt; most = tt }) (whole-small (ofInt binary32 (pos s)) s (whole s h) h)
 
 -- ---- six directions
@@ -202,7 +204,7 @@ module _ (angle radius : Float) (ok : angleStepOk angle ≡ true) (p : Point3) w
   looks-elevation d s h = tilted-small _ (raised-small _ _ (elevation-small p) (reaches angle radius ok d s h .elevation) .held)
 
   -- EACH STEP OF EACH SEARCH IS ANSWERED
-  pub search-answered : Inside p → SearchAnswered angle radius p
+  pub search-answered : Moderate p → SearchAnswered angle radius p
   search-answered i = record {
     start = spherical-answered p i;
     azimuth = λ d s h. within-450 _ (looks-azimuth d s h);
