@@ -4,6 +4,7 @@ use mathlib.Core.Bool.{cond}
 use lib.Ieee.{Float}
 use Rattle.floats.specs.Floats.{zero32}
 use Rattle.delays.specs.declared.Outcome.{Outcome}
+use Rattle.delays.specs.declared.Answer.{Answer}
 use Rattle.delays.specs.Delays.{answerOf}
 use Rattle.lookup.specs.declared.Lookup.{Lookup}
 use Rattle.lookup.specs.declared.Located.{Located}
@@ -49,9 +50,13 @@ abbrev pub loadedAs : Loaded → SofaLoaded
 loadedAs (loaded.Ready look) = record { reason = 0; place = 0; lookup = look }
 loadedAs (loaded.Refused n p) = record { reason = n; place = p; lookup = noLookup }
 
--- the fields of `answerOf` (crate delays), which says what each case of an outcome is; blended is 1 or 0
+-- the fields of an answer; blended is 1 or 0
+abbrev pub answerAs : Answer → SofaFiltered
+answerAs a = record { reason = a .reason; place = a .place; blended = cond (a .blended) 1 0; points = a .points; ldelay = a .left .0; rdelay = a .right .0 }
+
+-- `answerOf` (crate delays) says what each case of an outcome is
 abbrev pub filteredAs : Outcome → SofaFiltered
-filteredAs o = let a = answerOf o in record { reason = a .reason; place = a .place; blended = cond (a .blended) 1 0; points = a .points; ldelay = a .left .0; rdelay = a .right .0 }
+filteredAs o = answerAs (answerOf o)
 
 -- refused, the part is empty
 abbrev pub partAs : Part → SofaPart

@@ -1,30 +1,26 @@
 -- `sofa::set::filtered` meets its contract. Assumes nothing.
-use lib.Ieee.{ofBits}
-use mathlib.Core.Path.{sym, ap}
-use Rattle.sofa.specs.Set.{filteredAs}
+use mathlib.Core.Path.{_≡_, ap, _∙_}
+use mathlib.Core.Bool.{Bool, true, false, cond}
 use borrow.Author.Needs.{needs}
+use Rattle.delays.specs.declared.Answer.{Answer}
+use Rattle.sofa.specs.declared.set.SofaFiltered.{SofaFiltered}
+use Rattle.sofa.specs.Set.{answerAs}
 use Rattle.sofa.proofs.set.filtered.Statement.{statement}
 use Rattle.sofa.proofs.set.filtered.Tie as tie
 
-enum-known-a : tie.Need-enum-known-a
-enum-known-a c = search needs
+-- an answer of which it is known whether it was blended
+known : (t : Answer) (b : Bool) → t .blended ≡ b
+    → _≡_ {A = SofaFiltered} (record { reason = t .reason; place = t .place; blended = cond b 1 0; points = t .points; ldelay = t .left .0; rdelay = t .right .0 }) (answerAs t)
+known t b h = rw h
 
-enum-known-a-2 : tie.Need-enum-known-a-2
-enum-known-a-2 c = search needs
-
-enum-known-a-3 : tie.Need-enum-known-a-3
-enum-known-a-3 c = search needs
+answer-of-requires : tie.Need-answer-of-requires
+answer-of-requires c κs = search needs
 
 returns : tie.Need-returns
-returns c = sym (ap filteredAs (c .before .a .given .1))
+returns c = known _ true (c .if1 .taken) ∙ ap answerAs (c .before .answer-of .ensures)
 
 returns-2 : tie.Need-returns-2
-returns-2 c = sym (ap filteredAs (c .before .a2 .given .1))
-
-returns-3 : tie.Need-returns-3
-unfolding ofBits
-returns-3 c = sym (ap filteredAs (c .before .a3 .given .1))
+returns-2 c = known _ false (c .if1 .left) ∙ ap answerAs (c .before .answer-of .ensures)
 
 pub filtered-spec : {M : Type 1} → statement M
-filtered-spec =
-    tie.close (tie.spec enum-known-a enum-known-a-2 enum-known-a-3 returns returns-2 returns-3)
+filtered-spec = tie.close (tie.spec answer-of-requires returns returns-2)
