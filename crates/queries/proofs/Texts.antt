@@ -12,7 +12,6 @@ use Rattle.settext.specs.State.{lineNumber, lineCount, wentOf, badOf}
 use Rattle.settext.specs.Lines.{kindOf, product, keyLine, formLine, kindLine, mLine, rLine, nLine, rateLine, astepLine, rstepLine, delaysLine, lineOf, endOf}
 use Rattle.limits.specs.Allowed.{kindOk, sizesOk}
 use Rattle.limits.specs.Refusals.{verdictOf}
-use Rattle.limits.specs.Refusals.{pickVerdict}
 use Rattle.loads.specs.Load.{loadBy, loadOf}
 use Rattle.blocks.specs.Blocks.{wordLine, countLine, refusedText, formError}
 use Rattle.answers.specs.Answers.{setOf}
@@ -46,5 +45,5 @@ cut-short = refl
 -- no measurement: the set is well formed, its load is refused, and what comes after is not read
 pub no-measurement : outputOf (lines ("form=1" ∷ "kind=cartesian" ∷ "m=0" ∷ "r=2" ∷ "n=1" ∷ "rate=473b8000" ∷ "astep=3f000000" ∷ "rstep=3c23d70a" ∷ "delays=0" ∷ "anything" ∷ []))
     ≡ lines ("answer=refused" ∷ "reason=2" ∷ "place=0" ∷ [])
-unfolding outputOf outputFrom splitFrom reads onLine lineTurn lineOf keyLine formLine kindLine kindOf mLine rLine nLine product rateLine astepLine rstepLine delaysLine exactlyOf begins numBehind countOf hexOf numFrom atMost digitOf wentOf badOf endOf lineNumber lineCount setOf loadOf loadBy verdictOf pickVerdict kindOk sizesOk wordLine countLine refusedText decimalText decimalIn bytes
+unfolding outputOf outputFrom splitFrom reads onLine lineTurn lineOf keyLine formLine kindLine kindOf mLine rLine nLine product rateLine astepLine rstepLine delaysLine exactlyOf begins numBehind countOf hexOf numFrom atMost digitOf wentOf badOf endOf lineNumber lineCount setOf loadOf loadBy verdictOf kindOk sizesOk wordLine countLine refusedText decimalText decimalIn bytes
 no-measurement = refl

@@ -4,12 +4,12 @@ use mathlib.Core.Logic.{⊎-elim}
 use Prim.Native.Nat.{ℕ, _<_, _-_}
 use native.Mathlib.Omega.{arith}
 use denote.Ref.{now}
-use borrow.Author.Tests.{eqb-true}
+use borrow.Author.Tests.{eqb-true, not-true, not-false}
 use Rattle.points.specs.Points.{pointAt}
 use Rattle.kdtree.specs.declared.Best.{Best}
 use Rattle.kdtree.specs.declared.Searched.{Searched}
 use Rattle.kdtree.specs.declared.Searched.the-variants.{Found}
-use Rattle.kdtree.proofs.Whole.{both, not-true, not-false}
+use Rattle.kdtree.proofs.Whole.{both}
 use Rattle.kdtree.proofs.Step as step
 use borrow.Fn.Kinds.{In}
 use borrow.Fn.PlainCycle.{Measures, is, falls, and}

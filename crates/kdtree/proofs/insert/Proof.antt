@@ -5,6 +5,7 @@ use denote.Ref.{now}
 use Rattle.kdtree.specs.Insert.{Lists, listsOf, linkedLeft, linkedRight}
 use Rattle.kdtree.proofs.Whole as whole
 use borrow.Author.Needs.{needs}
+use borrow.Author.Tests.{not-true, not-false}
 use Rattle.kdtree.proofs.insert.Statement.{statement}
 use Rattle.kdtree.proofs.insert.Tie as tie
 
@@ -16,7 +17,7 @@ lists z = listsOf (now (z .args .positions)) (now (z .args .left)) (now (z .args
 
 -- each list has room
 room : (c : tie.Else1) → whole.Room (lists (begin c)) (begin c .args .count)
-room c = whole.room-says (lists (begin c)) (begin c .args .count) (sym (c .before .has-room .ensures) ∙ whole.not-false _ (c .if1 .left))
+room c = whole.room-says (lists (begin c)) (begin c .args .count) (sym (c .before .has-room .ensures) ∙ not-false _ (c .if1 .left))
 
 has-room-requires : tie.Need-has-room-requires
 has-room-requires c κs = search needs
@@ -24,7 +25,7 @@ has-room-requires c κs = search needs
 returns : tie.Need-returns
 returns c =
     let z = c .before .before .before .before .before .before in
-    whole.no-room (lists z) (z .args .count) (z .args .bounds) (z .args .p) (z .args .number) (sym (c .before .has-room .ensures) ∙ whole.not-true _ (c .if1 .taken))
+    whole.no-room (lists z) (z .args .count) (z .args .bounds) (z .args .p) (z .args .number) (sym (c .before .has-room .ensures) ∙ not-true _ (c .if1 .taken))
 
 write-node-requires : tie.Need-write-node-requires
 write-node-requires c κs =

@@ -6,6 +6,7 @@ use Rattle.kdtree.specs.Insert.{Lists, listsOf}
 use Rattle.kdtree.specs.Nearest.{readable}
 use Rattle.kdtree.proofs.Whole as whole
 use borrow.Author.Needs.{needs}
+use borrow.Author.Tests.{not-true, not-false}
 use Rattle.kdtree.proofs.nearest.Statement.{statement}
 use Rattle.kdtree.proofs.nearest.Tie as tie
 
@@ -17,7 +18,7 @@ lists z = listsOf (now (z .args .positions)) (now (z .args .left)) (now (z .args
 
 -- the lists passed the test of their lengths
 tested : (c : tie.Else1) → readable (lists (begin c)) (begin c .args .count) ≡ true
-tested c = sym (c .before .long-enough .ensures) ∙ whole.not-false _ (c .if1 .left)
+tested c = sym (c .before .long-enough .ensures) ∙ not-false _ (c .if1 .left)
 
 long : (c : tie.Else1) → whole.Readable (lists (begin c)) (begin c .args .count)
 long c = whole.readable-says (lists (begin c)) (begin c .args .count) (tested c)
@@ -28,7 +29,7 @@ long-enough-requires c κs = search needs
 returns : tie.Need-returns
 returns c =
     let z = c .before .before .before .before .before .before in
-    whole.too-short (lists z) (z .args .count) (z .args .bounds) (z .args .q) (sym (c .before .long-enough .ensures) ∙ whole.not-true _ (c .if1 .taken))
+    whole.too-short (lists z) (z .args .count) (z .args .bounds) (z .args .q) (sym (c .before .long-enough .ensures) ∙ not-true _ (c .if1 .taken))
 
 returns-2 : tie.Need-returns-2
 returns-2 c =
