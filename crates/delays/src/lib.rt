@@ -2,6 +2,8 @@
 //
 // Inside a set delays are in samples; those answered are in seconds, and only `seconds_of`, a division by the rate, makes the one from the
 // other. `answer_of` (specs/Delays.antt) states what each case of an outcome says, by document 01's numbers.
+#![tactic(auto)]
+
 ghost use Rattle.std.specs.Prelude.{◌≡◌};
 ghost use Rattle.delays.specs.Delays.{seconds_of, answer_of};
 

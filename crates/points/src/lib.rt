@@ -1,6 +1,8 @@
 // A point of three f32, how a lent list holds points (x, y, z, one after the other), and the squared distance of two points.
 //
 // The definitions are `point_at` and `dist_sq_of` (specs/Points.antt). The type is the source's Point3, with named coordinates.
+#![tactic(auto)]
+
 ghost use Rattle.std.specs.Prelude.{◌≡◌, ◌+◌, ◌*◌, ◌<◌, length};
 ghost use Rattle.points.specs.Points.{point_at, dist_sq_of};
 
