@@ -463,7 +463,7 @@ pub fn atan2(y: f32, x: f32) -> f32
 }
 
 // What a single angle call answers: the value, or document 01's number 7 and the argument's place.
-#[derive(Drop)]
+#[derive(Clone, Copy)]
 pub enum AngleAnswer {
     Value(f32),
     Refused(u32, usize),

@@ -19,7 +19,7 @@ use points::Point3;
 const MOST: usize = 24;
 
 // An open box, and the first `count` of `places`.
-#[derive(Drop)]
+#[derive(Clone, Copy)]
 pub struct Clearing {
     pub faces: BoundingBox,
     pub count: usize,
@@ -27,7 +27,7 @@ pub struct Clearing {
 }
 
 // What the levels of a walk hand on and answer: the faces so far, and how many places are listed. The places stand in one lent array.
-#[derive(Drop)]
+#[derive(Clone, Copy)]
 struct Kept {
     faces: BoundingBox,
     count: usize,
@@ -235,7 +235,7 @@ pub fn alone(b: BoundingBox, own: usize, p: Point3, root: Point3, q: Point3) -> 
 }
 
 // The nearest of those in a clearing, and whether another is as near.
-#[derive(Drop)]
+#[derive(Clone, Copy)]
 pub struct Nearest {
     pub place: usize,
     pub dist: f32,

@@ -17,7 +17,7 @@ use limits::Verdict;
 use points::Point3;
 
 // Azimuth and elevation in degrees.
-#[derive(Drop)]
+#[derive(Clone, Copy)]
 pub struct Spherical {
     pub azimuth: f32,
     pub elevation: f32,
@@ -25,7 +25,7 @@ pub struct Spherical {
 }
 
 // The sine and cosine of an angle.
-#[derive(Drop)]
+#[derive(Clone, Copy)]
 pub struct Turn {
     pub sin: f32,
     pub cos: f32,

@@ -7,14 +7,14 @@
 ghost use Rattle.std.specs.Prelude.{◌≡◌};
 ghost use Rattle.delays.specs.Delays.{seconds_of, answer_of};
 
-#[derive(Drop)]
+#[derive(Clone, Copy)]
 pub struct Samples(pub f32);
 
-#[derive(Drop)]
+#[derive(Clone, Copy)]
 pub struct Seconds(pub f32);
 
 // What a filter query answers: the left and the right delay; with how many points were blended; or the number and the place of a refusal.
-#[derive(Drop)]
+#[derive(Clone, Copy)]
 pub enum Outcome {
     Exact(Seconds, Seconds),
     Blended(Seconds, Seconds, usize),
@@ -22,7 +22,7 @@ pub enum Outcome {
 }
 
 // An outcome as plain numbers, for a host or a text. The reason is 0 where nothing was refused.
-#[derive(Drop)]
+#[derive(Clone, Copy)]
 pub struct Answer {
     pub reason: u32,
     pub place: usize,

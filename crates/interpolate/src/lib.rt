@@ -16,7 +16,7 @@ use mix::{Points, Share};
 use points::Point3;
 
 // An entry of the neighbour table as the blend meets it. One that is neither absent nor a measurement is bad.
-#[derive(Drop)]
+#[derive(Clone, Copy)]
 pub enum Entry {
     Absent,
     Measured(usize),
@@ -24,28 +24,28 @@ pub enum Entry {
 }
 
 // The closest of a pair so far: its number, and how far it is.
-#[derive(Drop)]
+#[derive(Clone, Copy)]
 pub enum Closest {
     Nothing,
     At(usize, f32),
 }
 
 // The closest after one more entry was met.
-#[derive(Drop)]
+#[derive(Clone, Copy)]
 pub enum Met {
     Best(Closest),
     Bad,
 }
 
 // The points to blend.
-#[derive(Drop)]
+#[derive(Clone, Copy)]
 pub enum Gathered {
     Points(Points),
     Bad,
 }
 
 // Where the delay of measurement k stands: at k * times + plus, if there are any.
-#[derive(Drop)]
+#[derive(Clone, Copy)]
 pub struct Stride {
     pub some: bool,
     pub times: usize,

@@ -54,7 +54,7 @@ fn beyond(sum: f32, min: f32, max: f32, q: f32) -> f32
 // ---- the box
 
 #[repr(C)]
-#[derive(Drop)]
+#[derive(Clone, Copy)]
 pub struct BoundingBox {
     pub min_x: f32,
     pub min_y: f32,
@@ -197,7 +197,7 @@ fn farther_box(rect: BoundingBox, axis: u8, v: f32, go_left: bool) -> BoundingBo
 // ---- links
 
 // What a link says.
-#[derive(Drop)]
+#[derive(Clone, Copy)]
 pub enum Link {
     Gone,
     To(usize),
@@ -231,7 +231,7 @@ pub fn either(first: bool, a: u16, b: u16) -> u16
 // ---- the search
 
 // The best place so far, its squared distance, and the visits so far.
-#[derive(Drop)]
+#[derive(Clone, Copy)]
 pub struct Best {
     pub dist: f32,
     pub place: u16,
@@ -239,7 +239,7 @@ pub struct Best {
 }
 
 // A search stops at a bad link, when it comes to that side, and where visit count + 1 would begin.
-#[derive(Drop)]
+#[derive(Clone, Copy)]
 pub enum Searched {
     Found(Best),
     Stopped,
@@ -444,7 +444,7 @@ pub fn nearest_place(
     )
 }
 
-#[derive(Drop)]
+#[derive(Clone, Copy)]
 pub enum Named {
     Nothing,
     Number(u16),
@@ -497,7 +497,7 @@ pub fn nearest(
 // ---- insertion
 
 // Where a new node goes: the absent left or right side of an owner, or nowhere where a bad link is met.
-#[derive(Drop)]
+#[derive(Clone, Copy)]
 pub enum Slot {
     Left(usize),
     Right(usize),
@@ -543,7 +543,7 @@ pub fn insert_rec(
     }
 }
 
-#[derive(Drop)]
+#[derive(Clone, Copy)]
 pub enum Inserted {
     Done(BoundingBox),
     // Document 01's number, and the place.

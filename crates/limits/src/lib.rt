@@ -17,7 +17,7 @@ use points::Point3;
 
 // M measurements, C coordinates, R receivers, N taps. Hosts hand it over as it stands, as they do the box and the lookup.
 #[repr(C)]
-#[derive(Drop)]
+#[derive(Clone, Copy)]
 pub struct Sizes {
     pub m: usize,
     pub c: usize,
@@ -26,7 +26,7 @@ pub struct Sizes {
 }
 
 // How long the lists are that a search goes by.
-#[derive(Drop)]
+#[derive(Clone, Copy)]
 pub struct TreeLengths {
     pub cartesian: usize,
     pub left: usize,
@@ -34,7 +34,7 @@ pub struct TreeLengths {
 }
 
 // How long the lists are that a blended filter reads.
-#[derive(Drop)]
+#[derive(Clone, Copy)]
 pub struct Lengths {
     pub tree: TreeLengths,
     pub responses: usize,
@@ -42,7 +42,7 @@ pub struct Lengths {
 }
 
 // A refusal has document 01's number and place.
-#[derive(Drop)]
+#[derive(Clone, Copy)]
 pub enum Verdict {
     Fine,
     Refused(u32, usize),

@@ -13,7 +13,7 @@ use limits::{Lengths, Sizes, TreeLengths, Verdict};
 use lookup::Lookup;
 
 // What the queries of the set go by, or document 01's number and place.
-#[derive(Drop)]
+#[derive(Clone, Copy)]
 pub enum Loaded {
     Ready(Lookup),
     Refused(u32, usize),

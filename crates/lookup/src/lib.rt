@@ -20,7 +20,7 @@ use points::Point3;
 
 // Azimuth phi and elevation theta in degrees.
 #[repr(C)]
-#[derive(Drop)]
+#[derive(Clone, Copy)]
 pub struct Lookup {
     pub bounds: BoundingBox,
     pub phi_min: f32,
@@ -32,7 +32,7 @@ pub struct Lookup {
 }
 
 // A measurement's number, or document 01's refusal: number and place.
-#[derive(Drop)]
+#[derive(Clone, Copy)]
 pub enum Located {
     At(u16),
     Refused(u32, usize),

@@ -9,14 +9,14 @@ ghost use Rattle.mix.specs.Mix.{start_of, tap_of, sample_of, out_of, tailed, lis
 ghost use Rattle.mix.specs.Mix as Mix;
 
 // A measurement and its weight.
-#[derive(Drop)]
+#[derive(Clone, Copy)]
 pub struct Share {
     pub number: usize,
     pub weight: f32,
 }
 
 // One to four points, in order: the first `count` places.
-#[derive(Drop)]
+#[derive(Clone, Copy)]
 pub struct Points {
     pub count: usize,
     pub a: Share,

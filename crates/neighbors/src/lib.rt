@@ -30,7 +30,7 @@ use lookup::{Located, Lookup};
 use points::Point3;
 
 // What the steps of one direction come to: another measurement, none, or document 01's refusal (number and place).
-#[derive(Drop)]
+#[derive(Clone, Copy)]
 pub enum Reached {
     At(u16),
     Absent,

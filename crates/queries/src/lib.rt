@@ -25,7 +25,7 @@ use settext::{End, State, Step};
 use text::Cut;
 
 // How far the program is.
-#[derive(Drop)]
+#[derive(Clone, Copy)]
 pub enum Phase {
     // The lines of the set are read.
     Reading(State),
@@ -36,21 +36,21 @@ pub enum Phase {
 }
 
 // Between two turns: the phase, and how many bytes of the line begun are in the line buffer.
-#[derive(Drop)]
+#[derive(Clone, Copy)]
 pub struct Run {
     pub phase: Phase,
     pub used: usize,
 }
 
 // After one line: the phase, and how many bytes at the front of `out` are to be printed.
-#[derive(Drop)]
+#[derive(Clone, Copy)]
 pub struct Turned {
     pub phase: Phase,
     pub count: usize,
 }
 
 // After a turn: the run, where the chunk goes on, and how many bytes at the front of `out` are to be printed.
-#[derive(Drop)]
+#[derive(Clone, Copy)]
 pub struct Told {
     pub run: Run,
     pub next: usize,

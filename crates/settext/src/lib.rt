@@ -10,7 +10,7 @@ use points::Point3;
 use text::{Num, Place};
 
 // Between two lines: how many were read, all well formed, and what the keys said. The counts are small enough that no product of them wraps.
-#[derive(Drop)]
+#[derive(Clone, Copy)]
 pub struct State {
     pub lines: usize,
     pub kind: u32,
@@ -24,7 +24,7 @@ pub struct State {
 }
 
 // What a line was: one of the set, the set's last, a query, or malformed with its number.
-#[derive(Drop)]
+#[derive(Clone, Copy)]
 pub enum Step {
     Next(State),
     Complete(State),
@@ -33,7 +33,7 @@ pub enum Step {
 }
 
 // At the end of the text: all is there, or the line of this number is malformed or missing.
-#[derive(Drop)]
+#[derive(Clone, Copy)]
 pub enum End {
     Fine,
     Cut(usize),

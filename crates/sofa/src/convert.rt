@@ -5,7 +5,7 @@ ghost use Rattle.sofa.specs.Convert.{refusal_as, turned_by, turn_says};
 use limits::Verdict;
 
 #[repr(C)]
-#[derive(Drop)]
+#[derive(Clone, Copy)]
 pub struct SofaRefusal {
     pub reason: u32,
     pub place: usize,

@@ -26,7 +26,7 @@ pub extern "C" fn sofa_version() -> u32
 }
 
 #[repr(C)]
-#[derive(Drop)]
+#[derive(Clone, Copy)]
 pub struct SofaValue {
     pub reason: u32,
     pub place: usize,

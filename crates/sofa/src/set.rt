@@ -19,7 +19,7 @@ use points::Point3;
 use stored::{Around, MaxDelay, Part};
 
 #[repr(C)]
-#[derive(Drop)]
+#[derive(Clone, Copy)]
 pub struct SofaLoaded {
     pub reason: u32,
     pub place: usize,
@@ -28,7 +28,7 @@ pub struct SofaLoaded {
 
 // Blended is 1 or 0.
 #[repr(C)]
-#[derive(Drop)]
+#[derive(Clone, Copy)]
 pub struct SofaFiltered {
     pub reason: u32,
     pub place: usize,
@@ -39,7 +39,7 @@ pub struct SofaFiltered {
 }
 
 #[repr(C)]
-#[derive(Drop)]
+#[derive(Clone, Copy)]
 pub struct SofaPart {
     pub reason: u32,
     pub place: usize,
@@ -48,7 +48,7 @@ pub struct SofaPart {
 }
 
 #[repr(C)]
-#[derive(Drop)]
+#[derive(Clone, Copy)]
 pub struct SofaNeighbors {
     pub reason: u32,
     pub place: usize,

@@ -7,7 +7,7 @@ use kdtree::{BoundingBox, Inserted, Named};
 use points::Point3;
 
 #[repr(C)]
-#[derive(Drop)]
+#[derive(Clone, Copy)]
 pub struct SofaInserted {
     pub reason: u32,
     pub place: usize,
@@ -16,7 +16,7 @@ pub struct SofaInserted {
 
 // The number is 65535 where there is none.
 #[repr(C)]
-#[derive(Drop)]
+#[derive(Clone, Copy)]
 pub struct SofaFound {
     pub reason: u32,
     pub place: usize,

@@ -16,7 +16,7 @@ ghost use Rattle.sofaquery.specs.Calls.{here, start_held, start_went, goes_on, r
 use queries::Run;
 
 // What came of the last call of the system.
-#[derive(Drop)]
+#[derive(Clone, Copy)]
 pub enum Flow {
     // There may be more to read.
     More,
@@ -29,7 +29,7 @@ pub enum Flow {
 }
 
 // Between two calls: how far the machine is, which part of the chunk it has not read, and what came of the last call.
-#[derive(Drop)]
+#[derive(Clone, Copy)]
 pub struct Went {
     pub run: Run,
     pub at: usize,

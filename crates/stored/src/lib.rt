@@ -12,7 +12,7 @@ use limits::{Sizes, Verdict};
 // ---- a measurement by its number
 
 // Where the taps of one ear stand in the caller's list, and how many they are; or the refusal.
-#[derive(Drop)]
+#[derive(Clone, Copy)]
 pub enum Part {
     Taps(usize, usize),
     Refused(u32, usize),
@@ -66,7 +66,7 @@ pub fn right_response(sizes: Sizes, responses: &[f32], number: usize) -> &[f32]
 }
 
 // The six entries of a measurement as they stand: 65535 is absent.
-#[derive(Drop)]
+#[derive(Clone, Copy)]
 pub struct Entries {
     pub phi_plus: u16,
     pub phi_minus: u16,
@@ -76,7 +76,7 @@ pub struct Entries {
     pub radius_minus: u16,
 }
 
-#[derive(Drop)]
+#[derive(Clone, Copy)]
 pub enum Around {
     Six(Entries),
     Refused(u32, usize),
@@ -108,7 +108,7 @@ pub fn neighbors_of(sizes: Sizes, neighbours: &[u16], number: usize) -> Around
 
 // ---- delays
 
-#[derive(Drop)]
+#[derive(Clone, Copy)]
 pub enum MaxDelay {
     Delay(Seconds),
     Refused(u32, usize),

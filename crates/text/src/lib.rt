@@ -24,7 +24,7 @@ ghost use Rattle.text.specs.Keys.{exactly_of, num_behind, values_fit, point_read
 
 use points::Point3;
 
-#[derive(Drop)]
+#[derive(Clone, Copy)]
 pub enum Num {
     Is(u32),
     Bad,
@@ -231,7 +231,7 @@ pub fn values(s: &[u8], n: usize, out: &mut [f32], at: usize) -> bool
 
 // ---- lines
 
-#[derive(Drop)]
+#[derive(Clone, Copy)]
 pub enum Cut {
     // A whole line: the chunk goes on at the first number, and so many bytes of the line are in the buffer.
     Line(usize, usize),
@@ -272,7 +272,7 @@ pub fn next_line(chunk: &[u8], from: usize, buf: &mut [u8], used: usize) -> Cut
 
 // ---- keys
 
-#[derive(Drop)]
+#[derive(Clone, Copy)]
 pub enum Place {
     At(Point3),
     Nowhere,

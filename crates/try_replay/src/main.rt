@@ -13,7 +13,7 @@ use stored::{Around, MaxDelay, Part};
 use text::Num;
 
 // Where the next word stands, whether the answer is as stored so far, and the counts.
-#[derive(Drop)]
+#[derive(Clone, Copy)]
 pub struct Tape {
     pub at: usize,
     pub same: bool,
@@ -22,7 +22,7 @@ pub struct Tape {
 }
 
 // What a set is given beside its lists, and how long these are.
-#[derive(Drop)]
+#[derive(Clone, Copy)]
 pub struct Given {
     pub kind: u32,
     pub sizes: Sizes,
