@@ -112,6 +112,16 @@ def turned(text, to, left):
     return TOKEN.sub(one, text)
 
 
+def of_the_kit(text, crates):
+    """The names that a file takes from the kit's modules: they keep their spelling there."""
+    kit = set()
+    for m in re.finditer(r"^(?:ghost |pub )*use ([^\s{;]+)\.\{([^}]*)\}", text, re.M):
+        module = m.group(1).split(".")
+        if module[0] != "Rattle" or module[1] not in crates:
+            kit.update(n.strip().split(" as ")[0] for n in m.group(2).split(","))
+    return kit
+
+
 def main():
     files = sorted(p for p in glob.glob("crates/**/*", recursive=True) if p.endswith((".rt", ".antt", ".edit")) and "/out/" not in p)
     to, within = table(files)
@@ -128,6 +138,8 @@ def main():
             new = re.sub("`[^`\n]*`", lambda q: re.sub(W, lambda m: to.get(m.group(), m.group()), q.group()), text)
         else:
             here = to | within[crate(path)] if path.endswith(".antt") else to
+            kit = of_the_kit(text, {crate(p) for p in files})
+            here = {a: b for a, b in here.items() if a not in kit}
             new = turned(text, here, steps if is_walk(path) else set())
         if new != text:
             with open(path, "w", encoding="utf-8", newline="") as it:

@@ -1,7 +1,7 @@
 -- The arctangent of every finite (y, x) with y not zero: the steps answer an `IsArc`. Assumes nothing.
 use mathlib.Core.Path.{refl, sym, subst, ◌≡◌, ◌∙◌, subst₂}
 use mathlib.Core.Bool.{Bool, true, false, cond, beq}
-use Prim.Native.Nat.{ℕ, ◌*◌, ◌+◌, ◌≤◌, ◌<◌, max, zero_le, zero, suc}
+use Prim.Native.Nat.{ℕ, ◌*◌, ◌+◌, ◌≤◌, ◌<◌, max, zero-le, zero, suc}
 use lib.IntN.{ℤ}
 use lib.Ieee.{Float, fin, up, down, neg, le}
 use native.Mathlib.Omega.{arith}
@@ -106,7 +106,7 @@ any_sign sy ny dy true u dx s c l = subst (λ (z : ℕ). Line sy ny dy true z dx
 
 -- x zero: its ratio to y
 pub zero_over : (m : ℕ) (e d : ℤ) → 0 * up d * down e ≤ m * up e * down d
-zero_over m e d = le_trans (le_of_eq (zero_times (up d) (down e))) zero_le
+zero_over m e d = le_trans (le_of_eq (zero_times (up d) (down e))) zero-le
 
 module _ (sy : Bool) (my : ℕ) (ey : ℤ) (sx : Bool) (ex : ℤ) (yp : 0 < my) where
   at_zero : IsArc (fin sy my ey) (fin sx 0 ex) (cond sy (neg (angle_of 1 (seek 24 (ratio_of (fin false 0 ex) (fin false my ey)) 0 13176795))) (angle_of 1 (seek 24 (ratio_of (fin false 0 ex) (fin false my ey)) 0 13176795)))

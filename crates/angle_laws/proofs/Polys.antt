@@ -7,7 +7,7 @@ use native.Mathlib.Omega.{arith}
 use lib.Dec.{T, lit<, lit≤}
 use lib.IntN.{ℤ, pos, negsuc}
 use lib.Ieee.{Float, fin, binary64, up, down, fits, mul, le, of_bits}
-use lib.Ieee.Fits.{mul_fits}
+use lib.Ieee.Fits.{mul-fits}
 use Rattle.floats.proofs.Ratio.{mul_shrinks}
 use Rattle.floats.proofs.Cross.{cross→le, nonneg_cross}
 use Rattle.floats.proofs.Preorder.{le_trans_f}
@@ -149,7 +149,7 @@ module _ (w : Float) (R D : ℕ) (dp : 0 < D) (un : R * 1000 ≤ 786 * D) (a : A
 
   le_ck : T (le (times (times w (times w w)) (num 4595172815570052611)) (times w (times w w)))
   le_ck = subst (λ (v : Float). T (le (mul binary64 v (num 4595172815570052611)) v)) (sym c.is) (subst (λ (v : Float). T (le (mul binary64 (fin false c.m c.x') v) (fin false c.m c.x'))) (sym s₁.is)
-      (shrink c.m c.x' s₁.m s₁.x' (subst (λ (v : Float). T (fits binary64 v)) c.is (mul_fits binary64 w (times w w))) (one_of 715827379 4294967296 1 s₁ (lit< tt) (lit≤ tt))))
+      (shrink c.m c.x' s₁.m s₁.x' (subst (λ (v : Float). T (fits binary64 v)) c.is (mul-fits binary64 w (times w w))) (one_of 715827379 4294967296 1 s₁ (lit< tt) (lit≤ tt))))
 
   ck_le : ck.m * up ck.x' * down a.x' ≤ a.m * up a.x' * down ck.x'
   ck_le = nonneg_cross ck.m ck.x' a.m a.x' (subst (λ (v : Float). T (le v (fin false a.m a.x'))) ck.is (subst (λ (v : Float). T (le (times (times w (times w w)) (num 4595172815570052611)) v)) a.is (le_trans_f _ _ _ le_ck le_c)))

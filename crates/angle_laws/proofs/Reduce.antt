@@ -1,5 +1,5 @@
 -- The reduction: from X = x 2^40 and the eighth q of a turn in which it lies, to k, the sign of r and r itself. Assumes nothing.
-use Prim.Native.Nat.{ℕ, suc, ◌*◌, ◌<◌, ◌+◌, ◌≤◌, ◌-◌, ◌/◌, ◌%◌, zero, zero_le}
+use Prim.Native.Nat.{ℕ, suc, ◌*◌, ◌<◌, ◌+◌, ◌≤◌, ◌-◌, ◌/◌, ◌%◌, zero, zero-le}
 use lib.Dec.{ltb, ltb→lt, leb, leb→le, lit≤, lit<, eqb}
 use mathlib.Core.Path.{◌≡◌, ap, sym, ◌∙◌, subst, subst₂}
 use native.Mathlib.Nat.{mul-lt-mul_of_pos_right, lt_of_mul-lt-mul_left, mul-le-mul_right, div-eq_of_lt-le, div-mul-le_self, le_of_mul-le-mul_left, mul-pos, le_of_mul-le-mul_right, zero-mul, suc-mul, add-zero, le_trans, le_of_eq, le_of_lt}
@@ -280,8 +280,8 @@ reduced neg n d X q dp e hq lo hi = go q (q / 2) (q % 2) (split q) (lt2 q) hq lo
     lt2 q = omega arith
 
     lows : (j : ℕ) → j < 21 → (j ≡ 0) ⊎ (bound j < X) → j * (pi_top * d) ≤ 4 * pi_bot * n
-    lows zero hj (inl z) = le_trans (le_of_eq (zero-mul (pi_top * d))) zero_le
-    lows zero hj (inr z) = le_trans (le_of_eq (zero-mul (pi_top * d))) zero_le
+    lows zero hj (inl z) = le_trans (le_of_eq (zero-mul (pi_top * d))) zero-le
+    lows zero hj (inr z) = le_trans (le_of_eq (zero-mul (pi_top * d))) zero-le
     lows (suc j) hj (inl z) = absurd (omega arith)
     lows (suc j) hj (inr z) = le_of_lt (low X n d j dp e (le_of_lt hj) z)
 

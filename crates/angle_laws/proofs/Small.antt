@@ -1,6 +1,6 @@
 -- Below 2^-12 the sine is x itself and the cosine 1: both well within 2^-20 of S and C. Assumes nothing.
 use mathlib.Core.Path.{◌≡◌, ap, refl, sym, ◌∙◌, subst, subst₂}
-use Prim.Native.Nat.{ℕ, ◌+◌, ◌*◌, ◌≤◌, ◌<◌, zero_le}
+use Prim.Native.Nat.{ℕ, ◌+◌, ◌*◌, ◌≤◌, ◌<◌, zero-le}
 use native.Mathlib.Nat.{mul-le-mul_left, mul-le-mul, le_trans, le_of_eq, le_of_lt, lt_of_le_of_lt, zero-mul, mul-le-mul_right, mul-lt-mul_of_pos_left, mul-pos, mul_assoc}
 use native.Mathlib.Omega.{arith}
 use mathlib.Core.Bool.{Bool, true, false}
@@ -70,7 +70,7 @@ module _ (n d : ℕ) (dp : 0 < d) (h : 4096 * n < d) where
       go y = omega arith
 
   pub sign0 : ltb (2 * pi_bot * n) (0 * (pi_top * d)) ≡ false
-  sign0 = le-ltb (2 * pi_bot * n) (0 * (pi_top * d)) (le_trans (le_of_eq (zero-mul (pi_top * d))) zero_le)
+  sign0 = le-ltb (2 * pi_bot * n) (0 * (pi_top * d)) (le_trans (le_of_eq (zero-mul (pi_top * d))) zero-le)
 
   pub proper0 : 2 * pi_bot * n ≤ 2 * pi_bot * d
   proper0 = mul-le-mul_left (2 * pi_bot) (go n h)

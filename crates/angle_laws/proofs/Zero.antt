@@ -1,7 +1,7 @@
 -- The arctangent where y is zero, and all of it. Assumes nothing.
 use mathlib.Core.Path.{◌≡◌, sym, ap, ◌∙◌, subst, refl, ap₂}
 use mathlib.Core.Bool.{Bool, true, false, cond, beq, ◌&&◌}
-use Prim.Native.Nat.{ℕ, ◌+◌, ◌*◌, ◌≤◌, max, ◌<◌, zero_le, zero, suc}
+use Prim.Native.Nat.{ℕ, ◌+◌, ◌*◌, ◌≤◌, max, ◌<◌, zero-le, zero, suc}
 use native.Mathlib.Nat.{le_trans, zero-mul, mul-le-mul_left, mul-le-mul_right, mul-pos, le_of_eq, le_of_mul-le-mul_left, zero-lt-suc, le-max_left}
 use native.Mathlib.Omega.{arith}
 use lib.Dec.{lit≤, lit<, T}
@@ -154,7 +154,7 @@ module _ (sy : Bool) (ey : ℤ) where
     (
       subst (λ (b : Bool). plus_positive (xor false b) (mx * up ex * down ey * (c0.top * s0.bot)) (xor sy s0.neg) (0 * up ey * down ex * (s0.top * c0.bot))) (sym neg0)
           (zero_fwd (xor sy s0.neg) (0 * up ey * down ex) (mx * up ex * down ey) s0.top s0.bot c0.top c0.bot (zero_times (up ey) (down ex)) (mul-pos (mul-pos xp (up_pos ex)) (down_pos ey)) cos0 bots.0),
-      (le_trans (le_of_eq (zero_times (up ey) 4194304)) zero_le, refl),
+      (le_trans (le_of_eq (zero_times (up ey) 4194304)) zero-le, refl),
     ),
   )
 

@@ -1,5 +1,5 @@
 -- Halving: what `seek` comes to passes the test, and the next does not, or there is none. Assumes nothing.
-use Rattle.std.proofs.Common.{◌≡◌, ℕ, zero, suc, ◌+◌, ◌-◌, ◌*◌, ◌/◌, ◌^◌, ◌<◌, ◌≤◌, Bool, true, false, not, T, ◌⊎◌, sym, refl, ap, ◌∙◌, subst, ap₂, subst₂, inl, inr, zero_le, le_trans, le_refl, lt_of_lt_of_le, lt_of_le_of_lt, lt_irrefl, mul-le-mul, mul-le-mul_left, pow-suc, arith, lit<, lit≤, le→leb, leb→le}
+use Rattle.std.proofs.Common.{◌≡◌, ℕ, zero, suc, ◌+◌, ◌-◌, ◌*◌, ◌/◌, ◌^◌, ◌<◌, ◌≤◌, Bool, true, false, not, T, ◌⊎◌, sym, refl, ap, ◌∙◌, subst, ap₂, subst₂, inl, inr, zero-le, le_trans, le_refl, lt_of_lt_of_le, lt_of_le_of_lt, lt_irrefl, mul-le-mul, mul-le-mul_left, pow-suc, arith, lit<, lit≤, le→leb, leb→le}
 use lib.Dec.{nleb→lt, not_T}
 use lib.Ieee.Bits.{is_true, is_false}
 use Rattle.sines.specs.Steps.{sin_fix, cos_fix, fits_under, seek}
@@ -64,7 +64,7 @@ unfolding sin_fix
 sin_zero = refl
 
 pub sought : (t : ℕ) → Sought t (seek 24 t 0 13176795)
-sought t = walk 24 t 0 13176795 (lit< tt) (lit≤ tt) (le_refl 13176795) (subst (λ (z : ℕ). 2147483648 * z ≤ t * cos_fix 0) (sym sin_zero) zero_le) (inl refl)
+sought t = walk 24 t 0 13176795 (lit< tt) (lit≤ tt) (le_refl 13176795) (subst (λ (z : ℕ). 2147483648 * z ≤ t * cos_fix 0) (sym sin_zero) zero-le) (inl refl)
 
 -- ---- for the code
 pub seek_yes : (f t lo hi : ℕ) → 2147483648 * sin_fix ((lo + hi) / 2 * 1024) ≤ t * cos_fix ((lo + hi) / 2 * 1024) → seek (suc f) t lo hi ≡ seek f t ((lo + hi) / 2) hi

@@ -9,7 +9,7 @@ use borrow.Author.Tests.{ne_eqb}
 use lib.Dec.{T, lt→ltb}
 use lib.IntN.{ℤ}
 use lib.Ieee.{Float, nan, inf, fin, binary32, round, neg, add, mul, div, le, lt, eq, fits, of_bits}
-use lib.Ieee.Fits.{and_i, mul_fits, add-fits}
+use lib.Ieee.Fits.{and_i, mul-fits, add-fits}
 use lib.Ieee.Positive.{positive, positive-finite}
 use lib.Ieee.Scale.{finite}
 use Rattle.floats.specs.Floats.{abs_of}
@@ -64,7 +64,7 @@ radians_small d h = small_mul binary32 (nearest32 720 1) per_degree sixteen d pe
 pub turn_answered : (d : Float) → Small (nearest32 720 1) d → TurnAnswered d
 turn_answered d h =
     let r = within_range (radians d) (radians_small d h) in
-    let w = mul_fits binary32 d per_degree in
+    let w = mul-fits binary32 d per_degree in
     let sin_is = first (in_range (radians d)) (sine_steps (radians d)) plus_zero r in
     let cos_is = first (in_range (radians d)) (cosine_steps (radians d)) plus_zero r in
     record {

@@ -8,7 +8,7 @@ use lib.ListN.{length, get_or}
 use mathlib.Core.Bool.{true}
 use lib.Dec.{T}
 use lib.Ieee.{Float, nan, binary32, round, neg, mul, le, lt, eq}
-use lib.Ieee.Fits.{mul_fits}
+use lib.Ieee.Fits.{mul-fits}
 use lib.Ieee.Bits.{is_true}
 use Rattle.floats.specs.Floats.{zero32}
 use Rattle.floats.proofs.Cross.{both}
@@ -69,11 +69,11 @@ inside s e =
     let r = radius_small s.radius e in
     let phi = mul binary32 s.azimuth per_degree in
     let theta = mul binary32 s.elevation per_degree in
-    let flat = once _ _ (cos_small theta (mul_fits binary32 s.elevation per_degree)) r in
+    let flat = once _ _ (cos_small theta (mul-fits binary32 s.elevation per_degree)) r in
     record {
-      x = small_inside _ (again _ _ (cos_small phi (mul_fits binary32 s.azimuth per_degree)) flat);
-      y = small_inside _ (again _ _ (sin_small phi (mul_fits binary32 s.azimuth per_degree)) flat);
-      z = small_inside _ (wider _ (once _ _ (sin_small theta (mul_fits binary32 s.elevation per_degree)) r));
+      x = small_inside _ (again _ _ (cos_small phi (mul-fits binary32 s.azimuth per_degree)) flat);
+      y = small_inside _ (again _ _ (sin_small phi (mul-fits binary32 s.azimuth per_degree)) flat);
+      z = small_inside _ (wider _ (once _ _ (sin_small theta (mul-fits binary32 s.elevation per_degree)) r));
     }
 
 -- ---- lists: every position value was allowed

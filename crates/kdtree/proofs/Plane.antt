@@ -6,7 +6,7 @@ use mathlib.Core.Bool.{Bool, true, false, not, cond, ◌&&◌, ◌||◌}
 use Prim.Native.Nat.{ℕ, zero, suc}
 use lib.Dec.{T}
 use lib.Ieee.{Float, binary32, add, sub, lt, le, fits, of_bits}
-use lib.Ieee.Fits.{add-fits, mul_fits}
+use lib.Ieee.Fits.{add-fits, mul-fits}
 use lib.Ieee.Bits.{of_bits-fits}
 use Rattle.floats.specs.Floats.{zero32}
 use Rattle.floats.proofs.Preorder.{le_refl_f, le_trans_f, le→not_lt}
@@ -57,7 +57,7 @@ grows s l g q h = go (lt q l) (lt g q) refl refl
 
 module _ (d v q : Float) (reached : T (le d (gap v q))) where
   within : (s : Float) → Sum s → T (nonneg (gap v q)) → T (le d (add binary32 s (gap v q)))
-  within s h n = le_trans_f d (gap v q) (add binary32 s (gap v q)) reached (add_grows_r binary32 s (gap v q) h.0 n (mul_fits binary32 _ _))
+  within s h n = le_trans_f d (gap v q) (add binary32 s (gap v q)) reached (add_grows_r binary32 s (gap v q) h.0 n (mul-fits binary32 _ _))
 
   below : (s g : Float) → Sum s → lt q v ≡ true → T (le d (outside s v g q))
   unfolding outside

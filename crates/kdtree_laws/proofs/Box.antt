@@ -6,7 +6,7 @@ use mathlib.Core.Bool.{Bool, true, false, not, cond}
 use lib.Dec.{T, T_not, not_T}
 use lib.IntN.{pos}
 use lib.Ieee.{Float, fin, binary32, add, sub, lt, le, fits, of_bits}
-use lib.Ieee.Fits.{add-fits, mul_fits}
+use lib.Ieee.Fits.{add-fits, mul-fits}
 use Rattle.points.specs.declared.Point3.{Point3}
 use Rattle.kdtree.specs.declared.BoundingBox.{BoundingBox}
 use Rattle.points.specs.Points.{gap, dist_sq_of}
@@ -103,7 +103,7 @@ zero_fair z (inl e) F = ap (λ (w : Float). add binary32 zero w) e ∙ add_nan_r
 zero_fair z (inr p) F = zero_plus binary32 z p F
 
 pub from_zero : (x p : Float) → add binary32 zero (gap x p) ≡ gap x p
-from_zero x p = zero_fair (gap x p) (sq_fair (sub binary32 x p)) (mul_fits binary32 (sub binary32 x p) (sub binary32 x p))
+from_zero x p = zero_fair (gap x p) (sq_fair (sub binary32 x p)) (mul-fits binary32 (sub binary32 x p) (sub binary32 x p))
 
 pub box_under : (b : BoundingBox) (x p : Point3) → Inside b x → T (not (lt (dist_sq_of x p) (box_dist_sq b p)))
 unfolding dist_sq_of box_dist_sq of_bits
@@ -118,7 +118,7 @@ box_under b x p i =
     let S2 = add_fair s1 (gap x.y p.y) S1 (sq_fair (sub binary32 x.y p.y)) in
     let h1 : T (not (lt s1 r1)) =
     subst (λ (z : Float). T (not (lt z r1))) (from_zero x.x p.x) (step zero zero b.min_x b.max_x p.x x.x tt (inr tt) (unfold fits in tt) (lt_irrefl_f zero) i.on_x_lem) in
-    let h2 = step r1 s1 b.min_y b.max_y p.y x.y R1 S1 (mul_fits binary32 (sub binary32 x.x p.x) (sub binary32 x.x p.x)) h1 i.on_y_lem in
+    let h2 = step r1 s1 b.min_y b.max_y p.y x.y R1 S1 (mul-fits binary32 (sub binary32 x.x p.x) (sub binary32 x.x p.x)) h1 i.on_y_lem in
     step r2 s2 b.min_z b.max_z p.z x.z R2 S2 (add-fits binary32 s1 (gap x.y p.y)) h2 i.on_z
 
 -- ---- so a box that is not nearer than the best holds no point that is nearer

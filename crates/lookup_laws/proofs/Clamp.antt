@@ -8,7 +8,7 @@ use native.Mathlib.Omega.{arith}
 use lib.Dec.{T, T_not, ltb, leb, eqb, ltb→lt, lt→ltb, leb→le}
 use lib.IntN.{ℤ, pos, negsuc}
 use lib.Ieee.{Float, nan, inf, fin, binary32, up, down, add, mul, div, neg, round, lt, le, eq, fits}
-use lib.Ieee.Fits.{and_l, and_r, up_pos, down_pos, add-fits, mul_fits}
+use lib.Ieee.Fits.{and_l, and_r, up_pos, down_pos, add-fits, mul-fits}
 use lib.Ieee.Scale.{finite, round_same}
 use lib.Ieee.Positive.{positive, cross→le}
 use Rattle.floats.specs.Floats.{zero32, abs_of}
@@ -102,7 +102,7 @@ module _ (x y z : Float) (fx : T (finite x)) (fy : T (finite y)) (fz : T (finite
   under_x : T (le (mul binary32 x x) sum)
   under_x =
       le_trans_f (mul binary32 x x) (add binary32 (mul binary32 x x) (mul binary32 y y)) sum
-      (add_grows binary32 (mul binary32 x x) (mul binary32 y y) (sq_nonneg binary32 x (finite_number x fx)) (sq_nonneg binary32 y (finite_number y fy)) (mul_fits binary32 x x))
+      (add_grows binary32 (mul binary32 x x) (mul binary32 y y) (sq_nonneg binary32 x (finite_number x fx)) (sq_nonneg binary32 y (finite_number y fy)) (mul-fits binary32 x x))
       (add_grows binary32 (add binary32 (mul binary32 x x) (mul binary32 y y)) (mul binary32 z z)
       (add_nonneg binary32 (mul binary32 x x) (mul binary32 y y) (sq_nonneg binary32 x (finite_number x fx)) (sq_nonneg binary32 y (finite_number y fy)))
       (sq_nonneg binary32 z (finite_number z fz)) (add-fits binary32 (mul binary32 x x) (mul binary32 y y)))
@@ -110,7 +110,7 @@ module _ (x y z : Float) (fx : T (finite x)) (fy : T (finite y)) (fz : T (finite
   under_y : T (le (mul binary32 y y) sum)
   under_y =
       le_trans_f (mul binary32 y y) (add binary32 (mul binary32 x x) (mul binary32 y y)) sum
-      (add_grows_r binary32 (mul binary32 x x) (mul binary32 y y) (sq_nonneg binary32 x (finite_number x fx)) (sq_nonneg binary32 y (finite_number y fy)) (mul_fits binary32 y y))
+      (add_grows_r binary32 (mul binary32 x x) (mul binary32 y y) (sq_nonneg binary32 x (finite_number x fx)) (sq_nonneg binary32 y (finite_number y fy)) (mul-fits binary32 y y))
       (add_grows binary32 (add binary32 (mul binary32 x x) (mul binary32 y y)) (mul binary32 z z)
       (add_nonneg binary32 (mul binary32 x x) (mul binary32 y y) (sq_nonneg binary32 x (finite_number x fx)) (sq_nonneg binary32 y (finite_number y fy)))
       (sq_nonneg binary32 z (finite_number z fz)) (add-fits binary32 (mul binary32 x x) (mul binary32 y y)))
@@ -119,7 +119,7 @@ module _ (x y z : Float) (fx : T (finite x)) (fy : T (finite y)) (fz : T (finite
   under_z =
       add_grows_r binary32 (add binary32 (mul binary32 x x) (mul binary32 y y)) (mul binary32 z z)
       (add_nonneg binary32 (mul binary32 x x) (mul binary32 y y) (sq_nonneg binary32 x (finite_number x fx)) (sq_nonneg binary32 y (finite_number y fy)))
-      (sq_nonneg binary32 z (finite_number z fz)) (mul_fits binary32 z z)
+      (sq_nonneg binary32 z (finite_number z fz)) (mul-fits binary32 z z)
 
 -- a root that is above 0 and below a finite value is that of a finite value above 0
 root_of_lem : (s least : Float) → T (fits binary32 s) → T (nonneg s) → T (magnitude least) → T (lt zero32 (root_of s)) → T (lt (root_of s) least) → T (positive s)
@@ -157,7 +157,7 @@ coordinate_bound x s least f w p u h l = go (lt reach (abs_of x)) refl
     clash t =
         let a = sq_mono binary32 reach (abs_of x) tt (magnitude_nonneg (abs_of x) m) (lt→le reach (abs_of x) t) in
         let b = le_trans_f (mul binary32 reach reach) (mul binary32 x x) s (subst (λ (z : Float). T (le (mul binary32 reach reach) z)) (size_square x f) a) u in
-        let c = root_of_mono (mul binary32 reach reach) s (mul_fits binary32 reach reach) w squared_positive p b in
+        let c = root_of_mono (mul binary32 reach reach) s (mul-fits binary32 reach reach) w squared_positive p b in
         let d = le_trans_f reach (root_of (mul binary32 reach reach)) (root_of s) root_reach c in
         T_not (lt (root_of s) reach) (le→not_lt reach (root_of s) d) (lt_le_trans (root_of s) least reach h l)
       where

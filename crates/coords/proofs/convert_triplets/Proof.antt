@@ -1,4 +1,4 @@
-use Prim.Native.Nat.{ℕ, ◌+◌, ◌*◌, ◌/◌, ◌-◌, ◌≤◌, ◌<◌, zero_le}
+use Prim.Native.Nat.{ℕ, ◌+◌, ◌*◌, ◌/◌, ◌-◌, ◌≤◌, ◌<◌, zero-le}
 use mathlib.Core.Path.{◌≡◌, refl, sym, ap, ◌∙◌}
 use mathlib.Core.List.{◌++◌}
 use lib.ListN.{length, take, drop, set}
@@ -33,7 +33,7 @@ module _ (l : tie.In-loop invariant-loop decreases-loop) where
   there = as_long (at + 2) len (length l.before.loop.values) given l.before.loop.inv.1
 
 loop-holds : tie.Need-loop-init invariant-loop decreases-loop
-loop-holds c = (zero_le, refl, refl)
+loop-holds c = (zero-le, refl, refl)
 
 point-at-requires : tie.Need-point-at-requires invariant-loop decreases-loop
 point-at-requires c κs = there c.before

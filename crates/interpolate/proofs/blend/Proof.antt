@@ -1,5 +1,5 @@
 -- `interpolate::blend` meets its contract: two ears and two delays of the points. Assumes nothing.
-use Prim.Native.Nat.{zero_le}
+use Prim.Native.Nat.{zero-le}
 use native.Mathlib.Nat.{le_refl}
 use lib.ListN.{length}
 use Rattle.interpolate.proofs.Laws.{blended}
@@ -9,7 +9,7 @@ use Rattle.interpolate.proofs.blend.Tie as tie
 blend-ear-requires : tie.Need-blend-ear-requires
 blend-ear-requires c κs =
     let q = c.before.before.before.before.before.requires in
-    (q.0, q.1, zero_le, q.2)
+    (q.0, q.1, zero-le, q.2)
 
 blend-ear-requires-2 : tie.Need-blend-ear-requires-2
 blend-ear-requires-2 c κs =
@@ -19,7 +19,7 @@ blend-ear-requires-2 c κs =
 blend-delay-requires : tie.Need-blend-delay-requires
 blend-delay-requires c κs =
     let q = c.before.before.before.before.before.before.before.before.before.before.before.before.requires in
-    (q.1, q.0.high, q.0.two, q.0.receivers, zero_le)
+    (q.1, q.0.high, q.0.two, q.0.receivers, zero-le)
 
 blend-delay-requires-2 : tie.Need-blend-delay-requires-2
 blend-delay-requires-2 c κs =

@@ -1,5 +1,5 @@
 -- `interpolate::extract_filter` meets its contract: two copies and two delays. Assumes nothing.
-use Prim.Native.Nat.{zero_le}
+use Prim.Native.Nat.{zero-le}
 use native.Mathlib.Nat.{le_refl}
 use lib.ListN.{length}
 use Rattle.interpolate.proofs.Laws.{extracted}
@@ -9,7 +9,7 @@ use Rattle.interpolate.proofs.extract_filter.Tie as tie
 copy-ear-requires : tie.Need-copy-ear-requires
 copy-ear-requires c κs =
     let q = c.before.before.before.before.before.requires in
-    (q.0, q.1, zero_le, q.2)
+    (q.0, q.1, zero-le, q.2)
 
 copy-ear-requires-2 : tie.Need-copy-ear-requires-2
 copy-ear-requires-2 c κs =
@@ -19,7 +19,7 @@ copy-ear-requires-2 c κs =
 plain-delay-requires : tie.Need-plain-delay-requires
 plain-delay-requires c κs =
     let q = c.before.before.before.before.before.before.before.before.before.before.before.before.requires in
-    (q.1, q.0.high, q.0.two, q.0.receivers, zero_le)
+    (q.1, q.0.high, q.0.two, q.0.receivers, zero-le)
 
 plain-delay-requires-2 : tie.Need-plain-delay-requires-2
 plain-delay-requires-2 c κs =

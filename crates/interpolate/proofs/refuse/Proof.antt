@@ -1,5 +1,5 @@
 -- `interpolate::refuse` meets its contract. Assumes nothing.
-use Prim.Native.Nat.{zero_le}
+use Prim.Native.Nat.{zero-le}
 use Rattle.delays.specs.declared.Outcome.TheVariants.{Refused}
 use mathlib.Core.Path.{◌∙◌}
 use Rattle.interpolate.proofs.Laws.{silent}
@@ -7,10 +7,10 @@ use Rattle.interpolate.proofs.refuse.Statement.{statement}
 use Rattle.interpolate.proofs.refuse.Tie as tie
 
 silence-requires : tie.Need-silence-requires
-silence-requires c κs = zero_le
+silence-requires c κs = zero-le
 
 silence-requires-2 : tie.Need-silence-requires-2
-silence-requires-2 c κs = zero_le
+silence-requires-2 c κs = zero-le
 
 same_length : tie.Need-same-length
 same_length c = c.before.before.before.before.before.before.silence.auto.0

@@ -1,6 +1,6 @@
 use Rattle.limits.proofs.Lines.{held}
 use borrow.Author.Tests.{not-true}
-use Prim.Native.Nat.{ℕ, ◌≤◌, ◌<◌, ◌-◌, zero_le}
+use Prim.Native.Nat.{ℕ, ◌≤◌, ◌<◌, ◌-◌, zero-le}
 use mathlib.Core.Path.{◌≡◌, refl, sym, ap, ◌∙◌}
 use lib.ListN.{length, drop, take}
 use native.Mathlib.Nat.{le_antisymm, lt_of_lt_of_le, lt_of_le_of_lt}
@@ -22,7 +22,7 @@ in_list c = lt_of_lt_of_le c.loop-test.true c.before.before.before.requires
 
 loop-holds : tie.Need-loop-init invariant-loop decreases-loop
 unfolding first_bad
-loop-holds c = (zero_le, refl)
+loop-holds c = (zero-le, refl)
 
 mul-position-ok : tie.Need-overflow-mul-position-ok invariant-loop decreases-loop
 mul-position-ok c = scaled_Fits c.before.loop.i _ 4 (in_list c) c.before.before.before.well-formed.1.0.1

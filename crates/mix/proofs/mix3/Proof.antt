@@ -1,5 +1,5 @@
 -- `mix::mix3` meets its contract. Assumes nothing.
-use Prim.Native.Nat.{ℕ, ◌+◌, ◌-◌, ◌≤◌, ◌<◌, zero_le}
+use Prim.Native.Nat.{ℕ, ◌+◌, ◌-◌, ◌≤◌, ◌<◌, zero-le}
 use mathlib.Core.Path.{◌≡◌, refl, ap, ◌∙◌}
 use mathlib.Core.List.{List}
 use lib.ListN.{length, set, length-set}
@@ -48,7 +48,7 @@ module _ (l : tie.In-loop invariant-loop decreases-loop) where
 
 loop-holds : tie.Need-loop-init invariant-loop decreases-loop
 unfolding over upto
-loop-holds c = (zero_le, refl, refl)
+loop-holds c = (zero-le, refl, refl)
 
 add-out : tie.Need-overflow-add-out invariant-loop decreases-loop
 add-out c = index_fits _ _ (in-a c) c.before.before.well-formed.1.0.0
