@@ -3,6 +3,8 @@
 // They are polynomials in f64, chosen by the eighth of a turn in which the angle lies. The contracts hold the steps, as definitions in
 // specs/: Steps on whole numbers, which the arctangent of crate `angles` goes by too, and Sines in floats. The calls for every f32, and
 // their refusals, are crate `angles`'s. That the steps meet document 01's bounds is proved in the crate `angle_laws`.
+#![tactic(auto)]
+
 ghost use Rattle.std.specs.Prelude.{◌≡◌, ◌≤◌, T};
 ghost use Rattle.std.specs.Float.Ieee.Scale.{finite};
 ghost use Rattle.bits.specs.Parts.{places};
