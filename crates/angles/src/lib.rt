@@ -8,6 +8,8 @@
 //
 // `sin`, `cos` and `atan2` take every f32 and give +0 where document 01 has the call refused. `sine`,
 // `cosine` and `arctangent` say so instead, with document 01's number and place.
+#![tactic(auto)]
+
 ghost use Rattle.std.specs.Prelude.{◌≡◌, ◌+◌, ◌-◌, ◌*◌, ◌/◌, ◌%◌, ◌<◌, ◌≤◌, min, true, false, not, ◌&&◌, T, pos};
 ghost use Rattle.std.specs.Float.{fin, binary32};
 ghost use Rattle.std.specs.Float.Ieee.{lt, mul, div, of_int};

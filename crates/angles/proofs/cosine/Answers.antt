@@ -1,0 +1,15 @@
+-- `angles::cosine` meets its contract. Assumes nothing.
+use lib.Ieee.{of_bits}
+use Rattle.std.proofs.Common.{rules}
+use Rattle.angles.proofs.Calls.{allowed, cosine_in, cosine_out}
+use Rattle.angles.proofs.cosine.Goals as goal
+
+pub cos_of-requires : goal.cos_of-requires
+cos_of-requires c = allowed c.args.x c.in_range.result c.in_range.ensures c.if-in_range.true
+
+pub returns-then-in_range : goal.returns-then-in_range
+returns-then-in_range c = cosine_in c.args.x c.in_range.result c.in_range.ensures c.cos_of.result c.if-in_range.true c.cos_of.ensures
+
+pub returns-else-in_range : goal.returns-else-in_range
+unfolding of_bits
+returns-else-in_range c = cosine_out c.args.x c.in_range.result c.in_range.ensures c.if-in_range.false

@@ -1,0 +1,15 @@
+-- `angles::sine` meets its contract. Assumes nothing.
+use lib.Ieee.{of_bits}
+use Rattle.std.proofs.Common.{rules}
+use Rattle.angles.proofs.Calls.{allowed, sine_in, sine_out}
+use Rattle.angles.proofs.sine.Goals as goal
+
+pub sin_of-requires : goal.sin_of-requires
+sin_of-requires c = allowed c.args.x c.in_range.result c.in_range.ensures c.if-in_range.true
+
+pub returns-then-in_range : goal.returns-then-in_range
+returns-then-in_range c = sine_in c.args.x c.in_range.result c.in_range.ensures c.sin_of.result c.if-in_range.true c.sin_of.ensures
+
+pub returns-else-in_range : goal.returns-else-in_range
+unfolding of_bits
+returns-else-in_range c = sine_out c.args.x c.in_range.result c.in_range.ensures c.if-in_range.false
