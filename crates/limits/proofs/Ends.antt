@@ -24,7 +24,11 @@ squeezed : (lo hi x : Float) → T (finite lo) → T (finite hi) → T (le lo x)
 unfolding le lt eq
 squeezed lo hi nan a b l h = absurd (le_nan lo l)
 squeezed lo (fin t n d) (inf false) a b l h = h
+squeezed lo nan (inf false) a b l h = elim b [ ]
+squeezed lo (inf _) (inf false) a b l h = elim b [ ]
 squeezed (fin s m e) hi (inf true) a b l h = l
+squeezed nan hi (inf true) a b l h = elim a [ ]
+squeezed (inf _) hi (inf true) a b l h = elim a [ ]
 squeezed lo hi (fin s m e) a b l h = tt
 
 pub between_finite : (lo hi x : Float) → T (finite lo) → T (finite hi) → between lo hi x ≡ true → T (finite x)

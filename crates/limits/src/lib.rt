@@ -9,6 +9,8 @@
 // proofs/Passed.antt has what a verdict of Fine gives a caller, proofs/Lines.antt that the verdict
 // is the first line met, proofs/Values.antt that a refused value is the first bad one, and
 // proofs/Ends.antt that allowed values are finite and which f32 the least angle step is.
+#![tactic(auto)]
+
 ghost use Rattle.std.specs.Prelude.{◌≡◌, true, [], ◌∷◌, ◌≤◌, length};
 ghost use Rattle.limits.specs.Allowed.{sizes_ok, tree_fits, responses_fit, neighbours_fit, plain_fits, blend_fits, load_fits, kind_ok, position_ok, first_bad, angle_step_ok, radius_step_ok, rate_ok};
 ghost use Rattle.limits.specs.Refusals.{verdict_of, reason_of, place_of, bad_rate, bad_number, query_lines, content_lines, load_lines, find_lines, filter_lines, number_lines, rated_lines, rate_lines, value_lines};

@@ -1,0 +1,8 @@
+use mathlib.Core.Path.{refl}
+use lib.Ieee.{round, of_bits, neg}
+use Rattle.limits.specs.Allowed.{angle_step_ok, within, between}
+use Rattle.limits.proofs.angle_step_ok.Goals as goal
+
+pub returns : goal.returns
+unfolding angle_step_ok within between round of_bits neg
+returns c = refl
