@@ -14,6 +14,8 @@
 // A line `key=..` and what stands behind its key: a word, a decimal, a value, values for a lent list, a point.
 //
 // The definitions stand in specs/Keys.antt, with words written as texts (specs/Words.antt).
+#![tactic(auto)]
+
 ghost use Rattle.std.specs.Prelude.{◌≡◌, ◌&&◌, ◌+◌, ◌*◌, ◌≤◌, ◌<◌, min, leb, length, set, drop};
 ghost use Rattle.lists.specs.Over.{over};
 ghost use Rattle.text.specs.Number.{digit_of, num_from, hex_of, count_of, begins, at_most};

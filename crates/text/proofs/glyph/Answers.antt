@@ -1,0 +1,19 @@
+-- `text::glyph` meets its contract. Assumes nothing.
+use native.Mathlib.Omega.{arith}
+use borrow.Author.Tests.{lt-ltb, le-ltb}
+use Rattle.text.specs.Print.{glyph_of}
+use Rattle.text.proofs.glyph.Goals as goal
+
+pub overflow_add-result : goal.overflow_add-result
+overflow_add-result c = omega arith
+
+pub overflow_add-result-else-d-lt10 : goal.overflow_add-result-else-d-lt10
+overflow_add-result-else-d-lt10 c = omega arith
+
+pub returns-then-d-lt10 : goal.returns-then-d-lt10
+unfolding glyph_of
+returns-then-d-lt10 c = simp (lt-ltb _ _ c.if-d-lt10.true)
+
+pub returns-else-d-lt10 : goal.returns-else-d-lt10
+unfolding glyph_of
+returns-else-d-lt10 c = simp (le-ltb _ _ c.if-d-lt10.false)

@@ -1,0 +1,36 @@
+-- `text::point` meets its contract. Assumes nothing.
+use mathlib.Core.Path.{◌≡◌, sym, ◌∙◌}
+use native.Mathlib.Omega.{arith}
+use lib.Dec.{lit<}
+use Prim.Native.Nat.{ℕ, ◌≤◌}
+use mathlib.Core.List.{List}
+use mathlib.Core.Bool.{true}
+use lib.ListN.{length}
+use Rattle.text.proofs.Reading.{measured}
+use Rattle.text.specs.Values.{values_ok}
+use Rattle.text.specs.Keys.{point_read}
+use Rattle.text.proofs.Keys.{point_in_lem}
+use Rattle.text.proofs.point.Goals as goal
+
+-- three values and two commas
+
+long : (s : List ℕ) → values_ok s 3 ≡ true → 26 ≤ length s
+long s h = omega (arith, measured s 3 (lit< tt) h)
+
+pub value_at-requires : goal.value_at-requires
+value_at-requires c = omega (arith, long c.args.s.now (sym c.values_ok.ensures ∙ c.if-values_ok.true))
+
+pub value_at-requires-then-values_ok : goal.value_at-requires-then-values_ok
+value_at-requires-then-values_ok c = omega (arith, long c.args.s.now (sym c.values_ok.ensures ∙ c.if-values_ok.true))
+
+pub value_at-requires-then-values_ok-2 : goal.value_at-requires-then-values_ok-2
+value_at-requires-then-values_ok-2 c = omega (arith, long c.args.s.now (sym c.values_ok.ensures ∙ c.if-values_ok.true))
+
+pub returns-then-values_ok : goal.returns-then-values_ok
+returns-then-values_ok c =
+    point_in_lem c.args.s.now _ _ _ (sym c.values_ok.ensures ∙ c.if-values_ok.true)
+    c.value_at.ensures c.value_at-then-values_ok.ensures c.value_at-then-values_ok-2.ensures
+
+pub returns : goal.returns
+unfolding point_read
+returns c = rw (sym c.values_ok.ensures ∙ c.if-values_ok.false)

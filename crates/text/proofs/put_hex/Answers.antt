@@ -1,0 +1,54 @@
+-- `text::put_hex` meets its contract. Assumes nothing.
+use Prim.Native.Nat.{ℕ, ◌-◌, ◌/◌, ◌%◌}
+use mathlib.Core.Path.{◌≡◌, refl, ap, ◌∙◌}
+use mathlib.Core.List.{List}
+use native.Mathlib.Omega.{arith}
+use lib.ListN.{set}
+use Rattle.lists.specs.Over.{over, upto}
+use Rattle.lists.proofs.Laws.{upto_more}
+use Rattle.text.specs.Print.{digit_at, glyph_of, hex_text}
+use Rattle.text.proofs.Printing.{weight}
+use native.Mathlib.Nat.{pow-le-pow_right}
+use lib.Dec.{lit<}
+use borrow.Author.Rules.{rules}
+use Rattle.text.proofs.put_hex.Goals as goal
+
+pub loop-i-init : goal.loop-i-init
+unfolding over upto
+loop-i-init c = (search rules, search rules, search rules, λ h. refl, refl)
+
+pub nonzero_div-x : goal.nonzero_div-x
+nonzero_div-x c =
+    let i = c.loop-i.i in
+    omega (arith, c.loop-i.invariant.3 c.loop-i-test.true, pow-le-pow_right {n = 16} (lit< tt) {i = 0} {j = 7 - i} (omega arith))
+
+pub bounds-out-i : goal.bounds-out-i
+bounds-out-i c = omega arith
+
+pub overflow_add-i : goal.overflow_add-i
+overflow_add-i c = omega arith
+
+pub loop-i-smaller : goal.loop-i-smaller
+loop-i-smaller c = omega arith
+
+pub loop-i-preserved : goal.loop-i-preserved
+unfolding digit_at
+loop-i-preserved c =
+    let l = c.before.before in
+    let a = l.args in
+    let i = l.loop-i.i in
+    let v : c.glyph.result ≡ digit_at a.x i = c.glyph.ensures ∙ ap (λ (p : ℕ). glyph_of (a.x / p % 16)) (l.loop-i.invariant.3 c.loop-i-test.true) in (
+      search rules,
+      search rules,
+      search rules,
+      λ h. weight i l.loop-i.p h (l.loop-i.invariant.3 c.loop-i-test.true),
+      ap (λ (t : List ℕ). set t i c.glyph.result) l.loop-i.invariant.4 ∙ ap (λ (w : ℕ). set (over (upto (digit_at a.x) i) a.out.now) i w) v ∙ upto_more (digit_at a.x) i a.out.now (omega arith),
+    )
+
+pub returns : goal.returns
+unfolding hex_text
+returns c =
+    let l = c.before in
+    let a = l.args in
+    let e : l.loop-i.i ≡ 8 = omega arith in
+    l.loop-i.invariant.4 ∙ ap (λ (n : ℕ). over (upto (digit_at a.x) n) a.out.now) e
