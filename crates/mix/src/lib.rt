@@ -3,6 +3,8 @@
 // Copies stop at the shorter of n and the output, and the rest of the output is +0: `out_of` (specs/Mix.antt) says what a whole output then
 // holds, sample by sample. `mix1` to `mix4` are the inner loops. They take the places where the sources start in one list of responses, so that
 // no part of it is borrowed in the loop and no index is tested: the contracts bound the places.
+#![tactic(auto)]
+
 ghost use Rattle.std.specs.Prelude.{◌≡◌, ◌+◌, ◌*◌, ◌≤◌, ◌<◌, length};
 ghost use Rattle.lists.specs.Over.{over, upto};
 ghost use Rattle.mix.specs.Mix.{start_of, tap_of, sample_of, out_of, tailed, list_of, lesser_of, Sized, Placed};
