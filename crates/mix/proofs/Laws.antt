@@ -1,15 +1,18 @@
 -- What a head and a tail make of an output, that a measurement's taps lie inside the responses, and that the loops' sums are those of the list
 -- of points. Assumes nothing.
-use Prim.Native.Nat.{ℕ, zero, suc, ◌+◌, ◌-◌, ◌*◌, ◌≤◌, ◌<◌}
+use Prim.Native.Nat.{ℕ, zero, suc, ◌+◌, ◌-◌, ◌*◌, ◌^◌, ◌≤◌, ◌<◌}
 use mathlib.Core.Path.{◌≡◌, refl, sym, ap, ◌∙◌}
 use mathlib.Core.Bool.{Bool, true, false, cond}
 use mathlib.Core.List.{List, [], ◌∷◌, ◌++◌, append_assoc, append-nil}
-use native.Mathlib.Nat.{le_of_lt, le_refl, lt_of_lt_of_le, mul-le-mul, mul-le-mul_right, suc-mul}
+use native.Mathlib.Nat.{le_of_lt, le_refl, lt_trans, lt_of_lt_of_le, mul-le-mul, mul-le-mul_right, suc-mul}
 use native.Mathlib.Omega.{arith}
 use lib.Dec.{ltb}
 use lib.ListN.{drop_of_length-le, length-take, length, take, drop, get_or, replicate, length-drop, length-replicate}
 use lib.Seq.{take-take, take-suc, get_or-drop}
 use lib.Ieee.{Float}
+use mir.Syntax.{w64}
+use mir.Val.{Fits}
+use borrow.Author.Rules.{scaled_Fits}
 use borrow.Author.Tests.{lt-ltb, le-ltb, ltb-true, ltb-false}
 use Rattle.floats.specs.Floats.{zero32}
 use Rattle.lists.specs.Over.{over, upto}
@@ -40,7 +43,19 @@ product2 k r e n hk hr he hn =
 pub start_asks : (m r n k e : ℕ) → Sized m r n → k < m → e ≤ 1 → (k < 16384) × (r ≤ 8) × (n ≤ 8192) × (e ≤ 1)
 start_asks m r n k e s hk he = (lt_of_lt_of_le hk s.high, s.receivers, s.taps, he)
 
--- ---- sample i is in reach of the output
+-- ---- sample i of a run of n samples that starts at a: it is there, and its index and where its bytes start fit a usize
+pub within : (a i n len : ℕ) → i < n → a + n ≤ len → a + i < len
+within a i n len h g = omega arith
+
+pub index_fits : (k len : ℕ) → k < len → len < 2 ^ 64 → Fits w64 k
+index_fits k len h g = record { fits = lt_trans h g }
+
+pub bytes_fit : (k len : ℕ) → k < len → len * 4 < 2 ^ 63 → Fits w64 (k * 4)
+bytes_fit k len h g = scaled_Fits k len 4 h g
+
+pub next_fits : (i n : ℕ) → i < n → n < 2 ^ 64 → Fits w64 (i + 1)
+next_fits i n h g = record { fits = omega arith }
+
 pub below_all : (i n len len₀ : ℕ) → i < n → n ≤ len₀ → len ≡ len₀ → i < len
 below_all i n len len₀ h g e = omega arith
 
@@ -160,6 +175,10 @@ module _ (p : Points) (s : List Float) (r n e : ℕ) where
       → Mix.mix4 s a b c d p.a.weight p.b.weight p.c.weight p.d.weight ≡ sample_of s r n e (list_of p)
   unfolding sample_of sums list_of
   is4 a b c d ea eb ec ed e4 = rw (ea, eb, ec, ed) (ap counted (sym e4))
+
+-- the last way of a match on the count
+pub four_left : (k : ℕ) → (k ≡ 1 → ⊥) → (k ≡ 2 → ⊥) → (k ≡ 3 → ⊥) → 1 ≤ k → k ≤ 4 → k ≡ 4
+four_left k a b c h g = omega arith
 
 -- an output over which a loop wrote f has g there too, where f and g are one function
 pub wrote_same : {f g : ℕ → Float} → f ≡ g → (k : ℕ) (d out : List Float) → out ≡ over (upto f k) d → out ≡ over (upto g k) d

@@ -1,8 +1,7 @@
 -- `mix::head` meets its contract. Assumes nothing.
 use mathlib.Core.Path.{◌≡◌}
-use native.Mathlib.Omega.{arith}
 use lib.ListN.{length}
-use Rattle.mix.proofs.Laws.{start_asks, reaches, is1, is2, is3, is4, wrote_same}
+use Rattle.mix.proofs.Laws.{start_asks, reaches, is1, is2, is3, is4, four_left, wrote_same}
 use Rattle.mix.proofs.head.Goals as goal
 
 pub start-a-requires : goal.start-a-requires
@@ -89,7 +88,8 @@ returns-in-3 c =
 pub returns-in_default : goal.returns-in_default
 returns-in_default c =
     let a = c.args in
-    let four : a.p.count ≡ 4 = omega (arith, c.requires.1.one, c.requires.1.four) in
+    let o = c.in_default.in_default-own.rest in
+    let four : a.p.count ≡ 4 = four_left a.p.count o.0.0.1 o.0.1 o.1 c.requires.1.one c.requires.1.four in
     wrote_same
     (is4 a.p a.src.now a.r a.n a.e c.start-a.result c.start-b.result c.start-c.result c.start-d.result c.start-a.ensures c.start-b.ensures c.start-c.ensures c.start-d.ensures four)
     a.k
