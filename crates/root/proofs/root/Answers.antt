@@ -45,6 +45,7 @@ overflow_cast-r c = omega (arith, r-bounds c)
 pub join-requires : goal.join-requires
 join-requires c = omega (arith, r-bounds c)
 
+-- `holds` is what owning an `f32` tells: the format holds it
 pub returns-then-x-2 : goal.returns-then-x-2
 returns-then-x-2 c =
     let x = c.args.x in
