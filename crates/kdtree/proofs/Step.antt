@@ -2,15 +2,12 @@
 -- has for it, and what the definition then says. Assumes nothing.
 use mathlib.Core.Path.{◌≡◌, refl, sym, ap, ◌∙◌}
 use mathlib.Core.Bool.{Bool, true, false, cond, ◌&&◌}
-use mathlib.Core.Logic.{⊎_elim}
-use mathlib.Core.List.{List, [], ◌∷◌}
+use mathlib.Core.List.{List}
 use Prim.Native.Nat.{ℕ, zero, suc, ◌+◌, ◌*◌, ◌-◌, ◌<◌, ◌≤◌}
 use native.Mathlib.Omega.{arith}
 use lib.ListN.{get_or}
 use lib.Dec.{ltb, eqb}
 use lib.Ieee.{Float, nan, binary32, sub, lt, le}
-use types.Run.{OneOf}
-use denote.Enum.Declared.{tag_of}
 use borrow.Author.Tests.{le-ltb, lt-ltb, ltb-true, eqb-true, eq-eqb}
 use Rattle.floats.specs.Floats.{zero32}
 use Rattle.points.specs.declared.Point3.{Point3}
@@ -20,7 +17,6 @@ use Rattle.kdtree.specs.declared.Searched.{Searched}
 use Rattle.kdtree.specs.declared.Searched.TheVariants.{Found, Stopped}
 use Rattle.kdtree.specs.declared.Link.{Link}
 use Rattle.kdtree.specs.declared.Link.TheVariants.{Gone, To, Bad}
-use Rattle.kdtree.specs.contracts.Link.{the_type}
 use Rattle.kdtree.specs.Geometry.{byAxis, coord_of, box_dist_sq, next_axis, left_first, goes_left}
 use Rattle.kdtree.specs.Tree.{Tree, link_of, side_of, subtree}
 use Rattle.points.specs.Points.{point_at, dist_sq_of}
@@ -69,9 +65,9 @@ gone_is count o l e = go (eqb l 65535) refl (ltb o l) (ltb l count) e
     go false ea true false z = let y : ◌≡◌ {A = ℕ} 0 1 = cc in absurd (omega arith)
     go false ea false c z = let y : ◌≡◌ {A = ℕ} 0 1 = cc in absurd (omega arith)
 
--- a link that leads nowhere, which the code's `else` knows by the two tags
+-- a link that leads nowhere, as the code's `else` knows it
 abbrev pub Nowhere : Link → Type 0
-Nowhere lk = OneOf (0 ∷ 2 ∷ []) (tag_of the_type lk)
+Nowhere lk = (x : ℕ) → lk ≡ To x → ⊥
 
 -- of the two links of a node that has a side not both are absent, whichever is the nearer
 both_gone : (g : Bool) (l r : ℕ) → eqb l 65535 && eqb r 65535 ≡ false → cond g l r ≡ 65535 → cond g r l ≡ 65535 → ⊥
@@ -289,7 +285,7 @@ module _ (left right : List ℕ) (xs : List Float) (count : ℕ) where
               go : (x : Link) → k.lk ≡ x → Nowhere x → Far t Stopped
               go Gone ex w = absurd (z (gone_is count n k.l (sym k.ek ∙ ex)))
               go Bad ex w = far_bad ex
-              go (To j) ex w = absurd (⊎_elim (λ z. omega (arith, z)) (λ z. omega (arith, z)) w)
+              go (To j) ex w = absurd (w j refl)
 
           pub far_in : (m : ℕ) (fb : BoundingBox) (y : Bool) (r : Searched) → k.lk ≡ To m → fb ≡ farther_box h.g b axis h.v
               → y ≡ lt (box_dist_sq (farther_box h.g b axis h.v) q) t.dist → y ≡ true → After m fb h.nx t r → Far t r
@@ -327,7 +323,7 @@ module _ (left right : List ℕ) (xs : List Float) (count : ℕ) where
             go : (x : Link) → lk ≡ x → Nowhere x → After n b axis s Stopped
             go Gone ex w = absurd (none (sym el ∙ gone_is count n l (sym ek ∙ ex)) (sym el' ∙ e))
             go Bad ex w = stopped_near (near_bad l lk el ek ex)
-            go (To j) ex w = absurd (⊎_elim (λ z. omega (arith, z)) (λ z. omega (arith, z)) w)
+            go (To j) ex w = absurd (w j refl)
 
   -- ---- insertion: the slot of a new point p
   module _ (p : Point3) where

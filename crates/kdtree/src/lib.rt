@@ -6,6 +6,8 @@
 // tie": distances and boxes in specs/Geometry.antt, the tree that the links draw in specs/Tree.antt, the pruned search in
 // specs/Search.antt, the unpruned walk in specs/Unpruned.antt. What the answers mean for the points inserted (demand 3) is the
 // crate `kdtree_laws`.
+#![tactic(auto)]
+
 ghost use Rattle.std.specs.Prelude.{◌≡◌, cond, ℕ, ◌+◌, ◌-◌, ◌*◌, ◌<◌, ◌≤◌, length};
 ghost use Rattle.kdtree.specs.Geometry.{byAxis, coord_of, next_axis, Firm, outside, box_dist_sq, box_at, lower, upper, grown, min_at, max_at, corner_of, with_min, with_max, goes_left};
 ghost use Rattle.kdtree.specs.Tree.{TreeHolds, link_of, subtree};
