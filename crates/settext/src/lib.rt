@@ -2,6 +2,8 @@
 //
 // `take_line` equals `line_of` (specs/Lines.antt), which says what each line makes of the state and of the three lists; `at_end` equals
 // `end_of`. Which line is wanted follows from how many were read, since each of them was well formed; the next one's number is K of a form error.
+#![tactic(auto)]
+
 ghost use Rattle.std.specs.Prelude.{◌≡◌};
 ghost use Rattle.settext.specs.State.{start_state, line_number, line_count, went_of, bad_of};
 ghost use Rattle.settext.specs.Lines.{kind_of, product, form_line, kind_line, m_line, r_line, n_line, rate_line, astep_line, rstep_line, delays_line, key_line, values_step, values_list, query_line, text_lists, after_as, line_of, end_of};

@@ -14,12 +14,6 @@ returns-then-s-i c =
     let a = l.args in
     sym (begins_short a.k.now a.s.now l.loop-i.i (omega arith) c.if-s-i.true) ∙ l.loop-i.invariant.1
 
-pub overflow_add-i : goal.overflow_add-i
-overflow_add-i c = omega arith
-
-pub loop-i-smaller : goal.loop-i-smaller
-loop-i-smaller c = omega arith
-
 pub loop-i-preserved : goal.loop-i-preserved
 loop-i-preserved c =
     let l = c.before.before.before.before.before in

@@ -25,23 +25,11 @@ returns-then-d-ge10 c =
     let a = c.args in
     sym (ap (at_most a.limit) (num_bad 10 c.loop-i.v c.loop-i.i a.s.now (omega arith) (omega (arith, c.digit-d.ensures)))) ∙ c.loop-i.invariant.3
 
-pub overflow_mul-w : goal.overflow_mul-w
-overflow_mul-w c = omega arith
-
-pub overflow_add-w : goal.overflow_add-w
-overflow_add-w c = omega arith
-
 pub returns-then-most-w : goal.returns-then-most-w
 returns-then-most-w c =
     let a = c.args in
     let w = c.loop-i.v * 10 + c.digit-d.result in
     sym (goes a.limit c.loop-i.v c.loop-i.i c.digit-d.result a.s.now (omega arith) c.digit-d.ensures (omega arith) ∙ too_many a.limit w (drop (c.loop-i.i + 1) a.s.now) (omega arith)) ∙ c.loop-i.invariant.3
-
-pub overflow_add-i : goal.overflow_add-i
-overflow_add-i c = omega arith
-
-pub loop-i-smaller : goal.loop-i-smaller
-loop-i-smaller c = omega arith
 
 pub loop-i-preserved : goal.loop-i-preserved
 loop-i-preserved c =

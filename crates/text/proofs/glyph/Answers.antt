@@ -1,14 +1,7 @@
 -- `text::glyph` meets its contract. Assumes nothing.
-use native.Mathlib.Omega.{arith}
 use borrow.Author.Tests.{lt-ltb, le-ltb}
 use Rattle.text.specs.Print.{glyph_of}
 use Rattle.text.proofs.glyph.Goals as goal
-
-pub overflow_add-result : goal.overflow_add-result
-overflow_add-result c = omega arith
-
-pub overflow_add-result-else-d-lt10 : goal.overflow_add-result-else-d-lt10
-overflow_add-result-else-d-lt10 c = omega arith
 
 pub returns-then-d-lt10 : goal.returns-then-d-lt10
 unfolding glyph_of

@@ -36,12 +36,6 @@ overflow_mul-v c = omega (arith, next c, small (c.loop-i.i + 1) (omega arith))
 pub overflow_add-v : goal.overflow_add-v
 overflow_add-v c = omega (arith, next c, small (c.loop-i.i + 1) (omega arith))
 
-pub overflow_add-i : goal.overflow_add-i
-overflow_add-i c = omega arith
-
-pub loop-i-smaller : goal.loop-i-smaller
-loop-i-smaller c = omega arith
-
 pub loop-i-preserved : goal.loop-i-preserved
 loop-i-preserved c =
     let l = c.before.before.before.before in

@@ -22,15 +22,6 @@ nonzero_div-x c =
     let i = c.loop-i.i in
     omega (arith, c.loop-i.invariant.3 c.loop-i-test.true, pow-le-pow_right {n = 16} (lit< tt) {i = 0} {j = 7 - i} (omega arith))
 
-pub bounds-out-i : goal.bounds-out-i
-bounds-out-i c = omega arith
-
-pub overflow_add-i : goal.overflow_add-i
-overflow_add-i c = omega arith
-
-pub loop-i-smaller : goal.loop-i-smaller
-loop-i-smaller c = omega arith
-
 pub loop-i-preserved : goal.loop-i-preserved
 unfolding digit_at
 loop-i-preserved c =

@@ -1,25 +1,9 @@
 -- `text::value_at` meets its contract. Assumes nothing.
-use native.Mathlib.Omega.{arith}
 use mathlib.Core.Path.{sym, ap, ◌∙◌}
 use lib.Ieee.{of_bits}
 use Rattle.text.specs.Values.{value_at, from_num}
 use Rattle.text.proofs.Reading.{eight}
 use Rattle.text.proofs.value_at.Goals as goal
-
-pub overflow_mul-a : goal.overflow_mul-a
-overflow_mul-a c = omega arith
-
-pub overflow_add-e : goal.overflow_add-e
-overflow_add-e c = omega arith
-
-pub slice_bounds-hex-count : goal.slice_bounds-hex-count
-slice_bounds-hex-count c = omega arith
-
-pub slice_bounds-hex-start : goal.slice_bounds-hex-start
-slice_bounds-hex-start c = omega arith
-
-pub slice_bounds-hex-end : goal.slice_bounds-hex-end
-slice_bounds-hex-end c = omega arith
 
 pub returns-in_default : goal.returns-in_default
 unfolding value_at of_bits

@@ -20,9 +20,6 @@ returns-then-out-n c =
     let h : length a.out.now < a.at + a.n = omega arith in
     (no_room (values_ok a.s.now a.n) _ _ h, refl)
 
-pub overflow_sub-out : goal.overflow_sub-out
-overflow_sub-out c = omega arith
-
 pub returns-then-out-n-2 : goal.returns-then-out-n-2
 unfolding stored
 returns-then-out-n-2 c =
@@ -39,21 +36,6 @@ value_at-requires c =
     let l = c.before in
     let a = l.args in
     omega (arith, measured a.s.now a.n (omega arith) l.loop-k.invariant.3)
-
-pub overflow_add-out : goal.overflow_add-out
-overflow_add-out c = omega arith
-
-pub offset_bounds-out-at : goal.offset_bounds-out-at
-offset_bounds-out-at c = omega arith
-
-pub bounds-out-at : goal.bounds-out-at
-bounds-out-at c = omega arith
-
-pub overflow_add-k : goal.overflow_add-k
-overflow_add-k c = omega arith
-
-pub loop-k-smaller : goal.loop-k-smaller
-loop-k-smaller c = omega arith
 
 pub loop-k-preserved : goal.loop-k-preserved
 loop-k-preserved c =

@@ -11,9 +11,6 @@ pub returns-then-n-eq0 : goal.returns-then-n-eq0
 unfolding values_ok
 returns-then-n-eq0 c = simp (eq-eqb _ 0 c.if-n-eq0.true)
 
-pub overflow_add-long : goal.overflow_add-long
-overflow_add-long c = omega arith
-
 pub returns-then-long-ne0 : goal.returns-then-long-ne0
 returns-then-long-ne0 c =
     let a = c.args in
@@ -27,12 +24,6 @@ returns-then-long-n c =
 pub loop-k-init : goal.loop-k-init
 unfolding all_below
 loop-k-init c = (search rules, omega arith, refl)
-
-pub overflow_add-k : goal.overflow_add-k
-overflow_add-k c = omega arith
-
-pub loop-k-smaller : goal.loop-k-smaller
-loop-k-smaller c = omega arith
 
 pub loop-k-preserved : goal.loop-k-preserved
 loop-k-preserved c =

@@ -1,0 +1,20 @@
+-- `settext::astep_line` meets its contract. Assumes nothing.
+use mathlib.Core.Path.{sym, ap, ◌∙◌}
+use lib.Ieee.{Float}
+use Rattle.text.specs.Values.{value_of}
+use Rattle.text.specs.Words.{bytes}
+use Rattle.settext.specs.State.{went_of, set_astep}
+use Rattle.settext.specs.Lines.{gives, astep_line}
+use Rattle.settext.proofs.astep_line.Goals as goal
+
+pub returns-in_default : goal.returns-in_default
+unfolding astep_line bytes
+returns-in_default c =
+    let s = c.args.s in
+    c.malformed.ensures ∙ sym (ap (gives s (λ v. set_astep s (value_of v))) (sym c.hex_behind-v.ensures ∙ c.in_default.is))
+
+pub returns : goal.returns
+unfolding astep_line bytes
+returns c =
+    let s = c.args.s in
+    c.went.ensures ∙ ap (λ (x : Float). went_of (set_astep s x)) c.value.ensures ∙ sym (ap (gives s (λ v. set_astep s (value_of v))) (sym c.hex_behind-v.ensures ∙ c.in-Is.is))

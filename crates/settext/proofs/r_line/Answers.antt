@@ -1,0 +1,24 @@
+-- `settext::r_line` meets its contract. Assumes nothing.
+use mathlib.Core.Path.{sym, ap, ◌∙◌}
+use native.Mathlib.Omega.{arith}
+use Rattle.text.specs.Words.{bytes}
+use Rattle.settext.specs.State.{set_r}
+use Rattle.settext.specs.Lines.{gives, r_line}
+use Rattle.settext.proofs.Laws.{behind_within}
+use Rattle.settext.proofs.r_line.Goals as goal
+
+pub returns-in_default : goal.returns-in_default
+unfolding r_line bytes
+returns-in_default c =
+    let s = c.args.s in
+    c.malformed.ensures ∙ sym (ap (gives s (set_r s)) (sym c.count_behind-v.ensures ∙ c.in_default.is))
+
+pub overflow_cast-t : goal.overflow_cast-t
+unfolding bytes
+overflow_cast-t c = omega (arith, behind_within (bytes "r=") c.args.line.now 4096 _ (sym c.count_behind-v.ensures ∙ c.in-Is.is))
+
+pub returns : goal.returns
+unfolding r_line bytes
+returns c =
+    let s = c.args.s in
+    c.went.ensures ∙ sym (ap (gives s (set_r s)) (sym c.count_behind-v.ensures ∙ c.in-Is.is))
