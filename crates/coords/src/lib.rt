@@ -9,6 +9,8 @@
 // specs/Moderate.antt: coordinates of magnitude at most 10001. proofs/Places.antt: a converted list,
 // place by place. The crate `coord_laws`: a converted position whose radius was
 // allowed has coordinates of magnitude at most 10001, and no angle of an allowed conversion is refused.
+#![tactic(auto)]
+
 ghost use Rattle.std.specs.Prelude.{◌≡◌};
 ghost use Rattle.coords.specs.Coords.{turn_of, along_of, cartesian_of, radius_of, spherical_of};
 ghost use Rattle.coords.specs.Arrays.{turned, by_triplets, converted_as, convert_of};
