@@ -10,24 +10,20 @@ loop-i-init c = (search rules, refl)
 
 pub returns-then-s-i : goal.returns-then-s-i
 returns-then-s-i c =
-    let l = c.before.before in
-    let a = l.args in
-    sym (begins_short a.k.now a.s.now l.loop-i.i (omega arith) c.if-s-i.true) ∙ l.loop-i.invariant.1
+    let a = c.args in
+    sym (begins_short a.k.now a.s.now c.loop-i.i (omega arith) c.if-s-i.true) ∙ c.loop-i.invariant.1
 
 pub loop-i-preserved : goal.loop-i-preserved
 loop-i-preserved c =
-    let l = c.before.before.before.before.before in
-    let a = l.args in
-    (omega arith, sym (begins_on a.k.now a.s.now l.loop-i.i (omega arith) (omega arith) c.if-s-i-2.true) ∙ l.loop-i.invariant.1)
+    let a = c.args in
+    (omega arith, sym (begins_on a.k.now a.s.now c.loop-i.i (omega arith) (omega arith) c.if-s-i-2.true) ∙ c.loop-i.invariant.1)
 
 pub returns-else-s-i-2 : goal.returns-else-s-i-2
 returns-else-s-i-2 c =
-    let l = c.before.before.before.before.before in
-    let a = l.args in
-    sym (begins_not a.k.now a.s.now l.loop-i.i (omega arith) (omega arith) c.if-s-i-2.false) ∙ l.loop-i.invariant.1
+    let a = c.args in
+    sym (begins_not a.k.now a.s.now c.loop-i.i (omega arith) (omega arith) c.if-s-i-2.false) ∙ c.loop-i.invariant.1
 
 pub returns : goal.returns
 returns c =
-    let l = c.before in
-    let a = l.args in
-    sym (begins_end a.k.now a.s.now l.loop-i.i (omega arith)) ∙ l.loop-i.invariant.1
+    let a = c.args in
+    sym (begins_end a.k.now a.s.now c.loop-i.i (omega arith)) ∙ c.loop-i.invariant.1

@@ -25,21 +25,19 @@ nonzero_div-x c =
 pub loop-i-preserved : goal.loop-i-preserved
 unfolding digit_at
 loop-i-preserved c =
-    let l = c.before.before in
-    let a = l.args in
-    let i = l.loop-i.i in
-    let v : c.glyph.result ≡ digit_at a.x i = c.glyph.ensures ∙ ap (λ (p : ℕ). glyph_of (a.x / p % 16)) (l.loop-i.invariant.3 c.loop-i-test.true) in (
+    let a = c.args in
+    let i = c.loop-i.i in
+    let v : c.glyph.result ≡ digit_at a.x i = c.glyph.ensures ∙ ap (λ (p : ℕ). glyph_of (a.x / p % 16)) (c.loop-i.invariant.3 c.loop-i-test.true) in (
       search rules,
       search rules,
       search rules,
-      λ h. weight i l.loop-i.p h (l.loop-i.invariant.3 c.loop-i-test.true),
-      ap (λ (t : List ℕ). set t i c.glyph.result) l.loop-i.invariant.4 ∙ ap (λ (w : ℕ). set (over (upto (digit_at a.x) i) a.out.now) i w) v ∙ upto_more (digit_at a.x) i a.out.now (omega arith),
+      λ h. weight i c.loop-i.p h (c.loop-i.invariant.3 c.loop-i-test.true),
+      ap (λ (t : List ℕ). set t i c.glyph.result) c.loop-i.invariant.4 ∙ ap (λ (w : ℕ). set (over (upto (digit_at a.x) i) a.out.now) i w) v ∙ upto_more (digit_at a.x) i a.out.now (omega arith),
     )
 
 pub returns : goal.returns
 unfolding hex_text
 returns c =
-    let l = c.before in
-    let a = l.args in
-    let e : l.loop-i.i ≡ 8 = omega arith in
-    l.loop-i.invariant.4 ∙ ap (λ (n : ℕ). over (upto (digit_at a.x) n) a.out.now) e
+    let a = c.args in
+    let e : c.loop-i.i ≡ 8 = omega arith in
+    c.loop-i.invariant.4 ∙ ap (λ (n : ℕ). over (upto (digit_at a.x) n) a.out.now) e

@@ -33,29 +33,26 @@ loop-k-init c = (search rules, omega arith, search rules, sym c.values_ok.ensure
 
 pub value_at-requires : goal.value_at-requires
 value_at-requires c =
-    let l = c.before in
-    let a = l.args in
-    omega (arith, measured a.s.now a.n (omega arith) l.loop-k.invariant.3)
+    let a = c.args in
+    omega (arith, measured a.s.now a.n (omega arith) c.loop-k.invariant.3)
 
 pub loop-k-preserved : goal.loop-k-preserved
 loop-k-preserved c =
-    let l = c.before.before in
-    let a = l.args in
+    let a = c.args in
     let f : ℕ → Float = value_at a.s.now in (
       omega arith,
-      l.loop-k.invariant.1,
+      c.loop-k.invariant.1,
       search rules,
-      l.loop-k.invariant.3,
-      ap (λ (x : Float). set l.loop-k.out (a.at + l.loop-k.k) x) c.value_at.ensures ∙ ap (λ (t : List Float). set t (a.at + l.loop-k.k) (f l.loop-k.k)) l.loop-k.invariant.4 ∙ into_more f a.at l.loop-k.k a.out.now (omega arith),
+      c.loop-k.invariant.3,
+      ap (λ (x : Float). set c.loop-k.out (a.at + c.loop-k.k) x) c.value_at.ensures ∙ ap (λ (t : List Float). set t (a.at + c.loop-k.k) (f c.loop-k.k)) c.loop-k.invariant.4 ∙ into_more f a.at c.loop-k.k a.out.now (omega arith),
     )
 
 pub returns-then-values_ok : goal.returns-then-values_ok
 unfolding stored
 returns-then-values_ok c =
-    let l = c.before in
-    let a = l.args in
-    let e : l.loop-k.k ≡ a.n = omega arith in
-    (sym (rw l.loop-k.invariant.3 (le-leb _ _ l.loop-k.invariant.1)), l.loop-k.invariant.4 ∙ ap (λ (k : ℕ). into a.at (upto (value_at a.s.now) k) a.out.now) e)
+    let a = c.args in
+    let e : c.loop-k.k ≡ a.n = omega arith in
+    (sym (rw c.loop-k.invariant.3 (le-leb _ _ c.loop-k.invariant.1)), c.loop-k.invariant.4 ∙ ap (λ (k : ℕ). into a.at (upto (value_at a.s.now) k) a.out.now) e)
 
 pub returns : goal.returns
 unfolding stored

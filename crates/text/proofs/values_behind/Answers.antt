@@ -18,10 +18,9 @@ slice_bounds-values-start c = begins_length c.args.key.now c.args.line.now (sym 
 pub returns-then-begins_with : goal.returns-then-begins_with
 returns-then-begins_with c =
     let a = c.args in
-    let t = c.before.before.before.before.before in
     let v = c.values in
     let e = tail (length a.key.now) a.line.now in (
-      values_fit_lem a.key.now a.line.now a.n a.at a.out.now v.result (sym t.begins_with.ensures ∙ t.if-begins_with.true) v.ensures.0,
+      values_fit_lem a.key.now a.line.now a.n a.at a.out.now v.result (sym c.begins_with.ensures ∙ c.if-begins_with.true) v.ensures.0,
       v.ensures.1 ∙ ap (λ (s : List ℕ). stored v.result s a.n a.at a.out.now) e,
     )
 

@@ -27,21 +27,18 @@ loop-k-init c = (search rules, omega arith, refl)
 
 pub loop-k-preserved : goal.loop-k-preserved
 loop-k-preserved c =
-    let l = c.before.before.before in
-    let a = l.args in
-    (omega arith, l.loop-k.invariant.1, all_more (good_at a.s.now a.n) l.loop-k.k l.loop-k.invariant.2 (sym c.good_at.ensures ∙ c.if-good_at.true))
+    let a = c.args in
+    (omega arith, c.loop-k.invariant.1, all_more (good_at a.s.now a.n) c.loop-k.k c.loop-k.invariant.2 (sym c.good_at.ensures ∙ c.if-good_at.true))
 
 pub returns-else-good_at : goal.returns-else-good_at
 unfolding values_ok
 returns-else-good_at c =
-    let l = c.before.before.before in
-    let a = l.args in
-    simp (ne_eqb _ 0 l.if-n-eq0.false, eq-eqb _ _ l.loop-k.invariant.1, fails (good_at a.s.now a.n) l.loop-k.k a.n (omega arith) (sym c.good_at.ensures ∙ c.if-good_at.false))
+    let a = c.args in
+    simp (ne_eqb _ 0 c.if-n-eq0.false, eq-eqb _ _ c.loop-k.invariant.1, fails (good_at a.s.now a.n) c.loop-k.k a.n (omega arith) (sym c.good_at.ensures ∙ c.if-good_at.false))
 
 pub returns : goal.returns
 unfolding values_ok
 returns c =
-    let l = c.before in
-    let a = l.args in
-    let e : l.loop-k.k ≡ a.n = omega arith in
-    simp (ne_eqb _ 0 l.if-n-eq0.false, eq-eqb _ _ l.loop-k.invariant.1, ap (all_below (good_at a.s.now a.n)) (sym e) ∙ l.loop-k.invariant.2)
+    let a = c.args in
+    let e : c.loop-k.k ≡ a.n = omega arith in
+    simp (ne_eqb _ 0 c.if-n-eq0.false, eq-eqb _ _ c.loop-k.invariant.1, ap (all_below (good_at a.s.now a.n)) (sym e) ∙ c.loop-k.invariant.2)
