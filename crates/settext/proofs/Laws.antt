@@ -1,13 +1,16 @@
--- What the line of a key says of its number, and which line is wanted. Assumes nothing.
-use Prim.Native.Nat.{ℕ, ◌-◌, ◌*◌, ◌≤◌, ◌<◌}
+-- Products of counts, and what the line of a key says of its number. Assumes nothing.
+use Prim.Native.Nat.{ℕ, ◌+◌, ◌-◌, ◌*◌, ◌≤◌, ◌<◌}
 use mathlib.Core.Path.{◌≡◌, ap, ◌∙◌}
 use mathlib.Core.Bool.{Bool, true, false, cond}
 use mathlib.Core.List.{List}
+use native.Mathlib.Nat.{mul-le-mul}
 use native.Mathlib.Omega.{arith}
 use borrow.Author.Tests.{lt-ltb, le-ltb}
 use lib.Dec.{leb}
 use lib.ListN.{length, get_or, drop, get_or-eq_default}
 use lib.Ieee.{Float}
+use mir.Syntax.{w16, w64}
+use mir.Val.{Fits}
 use Rattle.text.specs.declared.Num.{Num}
 use Rattle.text.specs.declared.Num.TheVariants.{Is, Bad}
 use Rattle.text.specs.Number.{begins, count_of}
@@ -17,6 +20,22 @@ use Rattle.settext.specs.declared.State.{State}
 use Rattle.settext.specs.declared.Step.{Step}
 use Rattle.settext.specs.State.{bad_of}
 use Rattle.settext.specs.Lines.{product, keys, key_line, query_line, TextLists, text_lists, After, pos_line, ir_line, delay_line, after_as, line_of}
+
+pub product16 : (a b : ℕ) → a < 65536 → b < 65536 → a * b ≤ 4294836225
+product16 a b ha hb = mul-le-mul {n₁ = a} {m₁ = b} {n₂ = 65535} {m₂ = 65535} (omega arith) (omega arith)
+
+pub product48 : (a b : ℕ) → a ≤ 4294836225 → b < 4294967296 → a * b < 18446744073709551616
+product48 a b ha hb = let h : a * b ≤ 4294836225 * 4294967295 = mul-le-mul {n₁ = a} {m₁ = b} {n₂ = 4294836225} {m₂ = 4294967295} ha (omega arith) in omega arith
+
+-- the place of a `pos` line, how many `ir` lines there are, and the place of one
+pub pos_fits : (i m : ℕ) → i < m → Fits w16 m → Fits w64 (3 * i)
+pos_fits i m h a = omega arith
+
+pub product_fits : (m r : ℕ) → Fits w16 m → Fits w16 r → Fits w64 (m * r)
+product_fits m r a b = omega (arith, product16 m r (omega arith) (omega arith))
+
+pub ir_fits : (j n m r : ℕ) → j < m * r → Fits w16 m → Fits w16 r → Fits w16 n → Fits w64 (j * n)
+ir_fits j n m r h a b d = let p = product16 m r (omega arith) (omega arith) in omega (arith, product48 j n (omega arith) (omega arith))
 
 -- a decimal behind a key is at most its limit
 pub behind_within : (key l : List ℕ) (k v : ℕ) → num_behind key (count_of k) l ≡ Is v → v ≤ k
@@ -53,6 +72,9 @@ same {t} {t'} {p} {p'} {r} {r'} {d} {d'} a b c e =
 pub wanted : (s : State) (l : List ℕ) (k : ℕ) → s.lines ≡ k → key_line s l ≡ get_or keys k (λ s l. bad_of s) s l
 unfolding key_line
 wanted s l k e = ap (λ (k : ℕ). get_or keys k (λ s l. bad_of s) s l) e
+
+pub up : {k : ℕ} (n : ℕ) → n ≤ k → (k ≡ n → ⊥) → n + 1 ≤ k
+up n h e = omega arith
 
 -- which line is wanted, by how many were read
 module _ (s : State) (l : List ℕ) (d : TextLists) where
