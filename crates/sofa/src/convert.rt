@@ -20,15 +20,13 @@ fn refusal(v: Verdict) -> SofaRefusal
     }
 }
 
-#[unsafe(no_mangle)]
-pub extern "C" fn sofa_to_spherical(values: &mut [f32]) -> SofaRefusal
+pub fn sofa_to_spherical(values: &mut [f32]) -> SofaRefusal
     ensures { turned_by result values.new ≡ turn_says 0 values.old }
 {
     refusal(coords::convert_array_to_spherical(values))
 }
 
-#[unsafe(no_mangle)]
-pub extern "C" fn sofa_to_cartesian(values: &mut [f32]) -> SofaRefusal
+pub fn sofa_to_cartesian(values: &mut [f32]) -> SofaRefusal
     ensures { turned_by result values.new ≡ turn_says 1 values.old }
 {
     refusal(coords::convert_array_to_cartesian(values))

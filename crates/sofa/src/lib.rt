@@ -1,4 +1,4 @@
-// Everything that a C or Rust host can call, and nothing else: thin functions over the crates below.
+// Everything that a C or Rust host can call, and nothing else: thin functions over the crates below. The crate `sofa_c` exports them to C.
 //
 // An enum does not cross the border, so each answer is a struct of numbers. Reason 0 means that
 // nothing was refused; any other is document 01's number, with its place. The definitions in specs/
@@ -18,8 +18,7 @@ pub mod convert;
 pub mod set;
 pub mod tree;
 
-#[unsafe(no_mangle)]
-pub extern "C" fn sofa_version() -> u32
+pub fn sofa_version() -> u32
     ensures { result ≡ version_number }
 {
     0 * 65536 + 1 * 256 + 0
@@ -50,29 +49,25 @@ fn told(a: AngleAnswer) -> SofaValue
     }
 }
 
-#[unsafe(no_mangle)]
-pub extern "C" fn sofa_root(x: f32) -> f32
+pub fn sofa_root(x: f32) -> f32
     ensures { result ≡ root_of x }
 {
     root::root(x)
 }
 
-#[unsafe(no_mangle)]
-pub extern "C" fn sofa_sine(x: f32) -> SofaValue
+pub fn sofa_sine(x: f32) -> SofaValue
     ensures { result ≡ value_as (sine_says x) }
 {
     told(angles::sine(x))
 }
 
-#[unsafe(no_mangle)]
-pub extern "C" fn sofa_cosine(x: f32) -> SofaValue
+pub fn sofa_cosine(x: f32) -> SofaValue
     ensures { result ≡ value_as (cosine_says x) }
 {
     told(angles::cosine(x))
 }
 
-#[unsafe(no_mangle)]
-pub extern "C" fn sofa_arctangent(y: f32, x: f32) -> SofaValue
+pub fn sofa_arctangent(y: f32, x: f32) -> SofaValue
     ensures { result ≡ value_as (arctan_says y x) }
 {
     told(angles::arctangent(y, x))

@@ -111,8 +111,7 @@ fn located(a: Located) -> SofaFound
     }
 }
 
-#[unsafe(no_mangle)]
-pub extern "C" fn sofa_load(
+pub fn sofa_load(
     kind: u32,
     sizes: Sizes,
     positions: &[f32],
@@ -144,8 +143,7 @@ pub extern "C" fn sofa_load(
     ))
 }
 
-#[unsafe(no_mangle)]
-pub extern "C" fn sofa_find(
+pub fn sofa_find(
     sizes: Sizes,
     look: Lookup,
     cartesian: &[f32],
@@ -161,8 +159,7 @@ pub extern "C" fn sofa_find(
     located(look.find(sizes, cartesian, left, right, q))
 }
 
-#[unsafe(no_mangle)]
-pub extern "C" fn sofa_find_mut(
+pub fn sofa_find_mut(
     sizes: Sizes,
     look: Lookup,
     cartesian: &[f32],
@@ -192,8 +189,7 @@ fn filtered(a: Outcome) -> SofaFiltered
     }
 }
 
-#[unsafe(no_mangle)]
-pub extern "C" fn sofa_filter(
+pub fn sofa_filter(
     sizes: Sizes,
     look: Lookup,
     cartesian: &[f32],
@@ -220,8 +216,7 @@ pub extern "C" fn sofa_filter(
     ))
 }
 
-#[unsafe(no_mangle)]
-pub extern "C" fn sofa_filter_nointerp(
+pub fn sofa_filter_nointerp(
     sizes: Sizes,
     look: Lookup,
     cartesian: &[f32],
@@ -246,8 +241,7 @@ pub extern "C" fn sofa_filter_nointerp(
     ))
 }
 
-#[unsafe(no_mangle)]
-pub extern "C" fn sofa_filter_number(
+pub fn sofa_filter_number(
     sizes: Sizes,
     responses: &[f32],
     delays: &[f32],
@@ -283,15 +277,13 @@ fn part(a: Part) -> SofaPart
     }
 }
 
-#[unsafe(no_mangle)]
-pub extern "C" fn sofa_left_response(sizes: Sizes, responses: &[f32], number: usize) -> SofaPart
+pub fn sofa_left_response(sizes: Sizes, responses: &[f32], number: usize) -> SofaPart
     ensures { result ≡ part_as (part_of sizes (length responses.now) number 0) }
 {
     part(stored::left_part(sizes, responses.len(), number))
 }
 
-#[unsafe(no_mangle)]
-pub extern "C" fn sofa_right_response(sizes: Sizes, responses: &[f32], number: usize) -> SofaPart
+pub fn sofa_right_response(sizes: Sizes, responses: &[f32], number: usize) -> SofaPart
     ensures { result ≡ part_as (part_of sizes (length responses.now) number 1) }
 {
     part(stored::right_part(sizes, responses.len(), number))
@@ -324,8 +316,7 @@ fn around(a: Around) -> SofaNeighbors
     }
 }
 
-#[unsafe(no_mangle)]
-pub extern "C" fn sofa_neighbors_of(
+pub fn sofa_neighbors_of(
     sizes: Sizes,
     neighbours: &[u16],
     number: usize,
@@ -352,8 +343,7 @@ fn longest(a: MaxDelay) -> SofaValue
     }
 }
 
-#[unsafe(no_mangle)]
-pub extern "C" fn sofa_max_delay(delays: &[f32], rate: f32) -> SofaValue
+pub fn sofa_max_delay(delays: &[f32], rate: f32) -> SofaValue
     ensures { result ≡ longest_as (max_delay_of delays.now rate) }
 {
     longest(stored::max_delay(delays, rate))

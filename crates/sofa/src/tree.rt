@@ -69,8 +69,7 @@ fn found(a: Named) -> SofaFound
     }
 }
 
-#[unsafe(no_mangle)]
-pub extern "C" fn sofa_tree_insert(
+pub fn sofa_tree_insert(
     count: usize,
     bounds: BoundingBox,
     positions: &mut [f32],
@@ -89,8 +88,7 @@ pub extern "C" fn sofa_tree_insert(
     inserted(kdtree::insert(count, bounds, positions, left, right, numbers, p, number))
 }
 
-#[unsafe(no_mangle)]
-pub extern "C" fn sofa_tree_nearest(
+pub fn sofa_tree_nearest(
     count: usize,
     bounds: BoundingBox,
     positions: &[f32],

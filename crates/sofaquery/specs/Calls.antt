@@ -1,9 +1,8 @@
 -- What the program does with what the system answered, call after call. Definitions only.
-use Rattle.std.specs.Prelude.{ℕ, zero, suc, ◌+◌, ◌≡◌, Bool, true, false, ◌&&◌, ◌||◌, List, [], ◌∷◌, ◌++◌, leb, ltb, ℤ, pos, negsuc, length, take, replicate, Float}
+use Rattle.std.specs.Prelude.{ℕ, zero, suc, ◌+◌, ◌≤◌, ◌≡◌, Bool, true, false, ◌&&◌, ◌||◌, List, [], ◌∷◌, ◌++◌, leb, ltb, ℤ, pos, negsuc, length, take, replicate, Float}
 use Rattle.floats.specs.Floats.{zero32}
 use Rattle.lists.specs.Over.{over}
 use Rattle.io.specs.Counts.{clamp_len}
-use Rattle.libc.specs.Io.{Moved}
 use Rattle.text.specs.Machine.{At}
 use Rattle.settext.specs.Lines.{TextLists, text_lists}
 use Rattle.loads.specs.Load.{Work, work_of}
@@ -122,6 +121,11 @@ wrote_turn a ok =
 pub data Call : Type 0 where
   read : ℤ → List ℕ → Call
   write : List ℕ → Bool → Call
+
+-- What a read into n bytes may answer: -1, or how many bytes it put there
+abbrev pub Moved : ℕ → ℤ → Type 0
+Moved n (pos k) = k ≤ n
+Moved n (negsuc k) = k ≡ 0
 
 -- What is known of an answer: a read fails with -1 or counts bytes of the chunk, and nothing to write goes well
 abbrev pub Answered : Call → Type 0

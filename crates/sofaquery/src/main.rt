@@ -11,9 +11,10 @@
 ghost use Rattle.std.specs.Prelude.{◌≤◌, ◌≡◌, true, length};
 ghost use Rattle.queries.specs.Sound.{Sound};
 ghost use Rattle.queries.specs.Machine.{start_run, Front};
-ghost use Rattle.sofaquery.specs.Calls.{here, start_held, start_went, goes_on, read_flow, after_read, write_flow, after_write, last_text, end_flow, not_taken, Came, Ends};
+ghost use Rattle.sofaquery.specs.Calls.{Moved, here, start_held, start_went, goes_on, read_flow, after_read, write_flow, after_write, last_text, end_flow, not_taken, Came, Ends};
 
 use queries::Run;
+use std::io::{Read, Stdin};
 
 // What came of the last call of the system.
 #[derive(Clone, Copy)]
@@ -110,6 +111,16 @@ fn after_write(run: Run, at: usize, have: usize, ok: bool) -> Went
     }
 }
 
+// A read of standard input: -1 where it failed, else how many bytes it put at the front of the chunk.
+fn read(input: &mut Stdin, chunk: &mut [u8; 65536]) -> isize
+    ensures { Moved 65536 result }
+{
+    match input.read(chunk) {
+        Ok(n) => n as isize,
+        Err(_) => -1,
+    }
+}
+
 // Writes so many bytes at the front of out: whether that went well. Nothing to write goes well.
 fn write(out: &[u8], count: usize) -> bool
     requires { count ≤ length out.now }
@@ -123,6 +134,7 @@ fn write(out: &[u8], count: usize) -> bool
 
 // Chunk after chunk, turn by turn.
 fn run(
+    input: &mut Stdin,
     buf: &mut [u8; 40000],
     positions: &mut [f32; 768],
     responses: &mut [f32; 4096],
@@ -172,7 +184,7 @@ fn run(
             let ok = write(out, told.count);
             went = after_write(told.run, told.next, have, ok);
         } else {
-            let got = libc::read(0, &mut chunk);
+            let got = read(input, &mut chunk);
             went = after_read(t, got, &chunk);
         }
     }
@@ -243,7 +255,8 @@ fn end(went: Went, buf: &[u8; 40000], out: &mut [u8; 73848])
     tell(end_flow(flow, ok), bad);
 }
 
-fn main() {
+fn main(rt: HostRuntime) {
+    let mut input = rt.stdin();
     let mut buf = [0u8; 40000];
     let mut positions = [0.0f32; 768];
     let mut responses = [0.0f32; 4096];
@@ -256,6 +269,7 @@ fn main() {
     let mut out_right = [0.0f32; 4096];
     let mut out = [0u8; 73848];
     let went = run(
+        &mut input,
         &mut buf,
         &mut positions,
         &mut responses,
