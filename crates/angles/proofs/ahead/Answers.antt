@@ -1,5 +1,4 @@
 -- `angles::ahead` meets its contract. Assumes nothing.
-use Rattle.std.proofs.Common.{rules}
 use Rattle.angles.proofs.ahead.Goals as goal
 
 pub returns-else-b : goal.returns-else-b

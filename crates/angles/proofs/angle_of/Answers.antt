@@ -1,5 +1,5 @@
 -- `angles::angle_of` meets its contract. Assumes nothing.
-use Rattle.std.proofs.Common.{◌∙◌, rules}
+use Rattle.std.proofs.Common.{◌∙◌}
 use lib.Ieee.{of_bits}
 use Rattle.angles.specs.Arc.{angle_of}
 use Rattle.angles.proofs.Steps.{angle_last}

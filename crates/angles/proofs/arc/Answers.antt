@@ -1,5 +1,5 @@
 -- `angles::arc` meets its contract. Assumes nothing.
-use Rattle.std.proofs.Common.{true, false, rules}
+use Rattle.std.proofs.Common.{true, false}
 use lib.Ieee.{of_bits}
 use Rattle.angles.proofs.Sides.{flat_of_lem, steep_of, small_t}
 use Rattle.angles.proofs.Steps.{arc_is}

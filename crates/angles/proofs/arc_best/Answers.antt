@@ -1,5 +1,5 @@
 -- `angles::arc_best` meets its contract. Assumes nothing.
-use Rattle.std.proofs.Common.{ℕ, ◌≤◌, true, false, sym, ap, ◌∙◌, subst, lit≤, rules}
+use Rattle.std.proofs.Common.{ℕ, ◌≤◌, true, false, sym, ap, ◌∙◌, subst, lit≤}
 use lib.Ieee.{of_bits}
 use Rattle.floats.specs.Floats.{abs_of}
 use Rattle.angles.proofs.Sides.{flat_of_lem, steep_of}

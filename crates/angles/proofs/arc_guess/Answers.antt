@@ -1,6 +1,5 @@
 -- `angles::arc_guess` meets its contract. Assumes nothing.
 use lib.Ieee.{sub}
-use Rattle.std.proofs.Common.{rules}
 use Rattle.angles.proofs.Guessed.{arc_back, arc_ahead}
 use Rattle.angles.proofs.arc_guess.Goals as goal
 

@@ -1,5 +1,5 @@
 -- `angles::arc_size` meets its contract. Assumes nothing.
-use Rattle.std.proofs.Common.{ℕ, ◌<◌, true, false, sym, subst, rules}
+use Rattle.std.proofs.Common.{ℕ, ◌<◌, true, false, sym, subst}
 use Rattle.sines.specs.Steps.{seek}
 use Rattle.angles.proofs.Seek.{sought}
 use Rattle.angles.proofs.Steps.{size_is}

@@ -1,6 +1,5 @@
 -- `angles::arctangent` meets its contract. Assumes nothing.
 use lib.Ieee.{of_bits}
-use Rattle.std.proofs.Common.{rules}
 use Rattle.angles.proofs.Calls.{allowed2, arctan_in, arctan_x, arctan_y}
 use Rattle.angles.proofs.arctangent.Goals as goal
 

@@ -1,6 +1,5 @@
 -- `angles::atan2` meets its contract. Assumes nothing.
 use lib.Ieee.{of_bits}
-use Rattle.std.proofs.Common.{rules}
 use Rattle.angles.proofs.Calls.{allowed2, atan2_in, atan2_x, atan2_y}
 use Rattle.angles.proofs.atan2.Goals as goal
 

@@ -1,5 +1,4 @@
 -- `angles::atan_guess` meets its contract. Assumes nothing.
-use Rattle.std.proofs.Common.{rules}
 use Rattle.angles.proofs.Guessed.{guess_low, guess_high}
 use Rattle.angles.proofs.atan_guess.Goals as goal
 

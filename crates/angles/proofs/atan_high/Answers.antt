@@ -1,5 +1,5 @@
 -- `angles::atan_high` meets its contract. Assumes nothing.
-use Rattle.std.proofs.Common.{refl, rules}
+use Rattle.std.proofs.Common.{refl}
 use lib.Ieee.{sub}
 use Rattle.angles.proofs.Guessed.{high_1, high_2, high_3, high_4, high_5}
 use Rattle.angles.proofs.atan_high.Goals as goal

@@ -1,6 +1,5 @@
 -- `angles::atan_low` meets its contract. Assumes nothing.
 use lib.Ieee.{sub}
-use Rattle.std.proofs.Common.{rules}
 use Rattle.angles.proofs.Guessed.{low_x, low_tail}
 use Rattle.angles.proofs.atan_low.Goals as goal
 

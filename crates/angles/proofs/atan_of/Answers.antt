@@ -1,5 +1,5 @@
 -- `angles::atan_of` meets its contract. Assumes nothing.
-use Rattle.std.proofs.Common.{true, false, rules}
+use Rattle.std.proofs.Common.{true, false}
 use lib.Ieee.{of_bits, neg}
 use Rattle.angles.proofs.Axis.{tan_pi, tan_zero, tan_arc, usable_of}
 use Rattle.angles.proofs.atan_of.Goals as goal

@@ -1,6 +1,5 @@
 -- `angles::cos` meets its contract. Assumes nothing.
 use lib.Ieee.{of_bits}
-use Rattle.std.proofs.Common.{rules}
 use Rattle.angles.proofs.Calls.{allowed, cos_in, cos_out}
 use Rattle.angles.proofs.cos.Goals as goal
 

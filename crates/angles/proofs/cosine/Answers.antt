@@ -1,6 +1,5 @@
 -- `angles::cosine` meets its contract. Assumes nothing.
 use lib.Ieee.{of_bits}
-use Rattle.std.proofs.Common.{rules}
 use Rattle.angles.proofs.Calls.{allowed, cosine_in, cosine_out}
 use Rattle.angles.proofs.cosine.Goals as goal
 

@@ -1,6 +1,5 @@
 -- `angles::gap` meets its contract. Assumes nothing.
 use Rattle.angles.proofs.Steps.{gap_sum, gap_apart, dist_up, dist_down}
-use Rattle.std.proofs.Common.{rules}
 use Rattle.angles.proofs.gap.Goals as goal
 
 pub returns-then-differ : goal.returns-then-differ

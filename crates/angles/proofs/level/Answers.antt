@@ -1,5 +1,4 @@
 -- `angles::level` meets its contract. Assumes nothing.
-use Rattle.std.proofs.Common.{rules}
 use Rattle.sines.proofs.Bounds.{level_mul, level_sub}
 use Rattle.angles.proofs.level.Goals as goal
 

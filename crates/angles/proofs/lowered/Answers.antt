@@ -1,6 +1,5 @@
 -- `angles::lowered` meets its contract. Assumes nothing.
 use lib.Ieee.{sub}
-use Rattle.std.proofs.Common.{rules}
 use Rattle.angles.proofs.Guessed.{lowered_is}
 use Rattle.angles.proofs.lowered.Goals as goal
 

@@ -1,5 +1,5 @@
 -- `angles::on_grid` meets its contract. Assumes nothing.
-use Rattle.std.proofs.Common.{ℕ, ◌<◌, sym, subst, arith, rules}
+use Rattle.std.proofs.Common.{ℕ, ◌<◌, sym, subst, arith}
 use Rattle.sines.specs.Steps.{rest}
 use Rattle.angles.specs.Arc.{grid_test}
 use Rattle.sines.proofs.Scan.{rest_lt, scan_le}

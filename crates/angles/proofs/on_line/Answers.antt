@@ -1,6 +1,5 @@
 -- `angles::on_line` meets its contract. Assumes nothing.
 use Rattle.angles.proofs.Steps.{line_yes, line_no, mul_small, mul_fits}
-use Rattle.std.proofs.Common.{rules}
 use Rattle.angles.proofs.on_line.Goals as goal
 
 pub overflow_mul-py : goal.overflow_mul-py

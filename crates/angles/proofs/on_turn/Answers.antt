@@ -1,5 +1,5 @@
 -- `angles::on_turn` meets its contract. Assumes nothing.
-use Rattle.std.proofs.Common.{◌∙◌, rules}
+use Rattle.std.proofs.Common.{◌∙◌}
 use Rattle.angles.proofs.Steps.{turn_last}
 use Rattle.angles.proofs.on_turn.Goals as goal
 

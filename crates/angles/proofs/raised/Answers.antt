@@ -1,6 +1,5 @@
 -- `angles::raised` meets its contract. Assumes nothing.
 use lib.Ieee.{sub}
-use Rattle.std.proofs.Common.{rules}
 use Rattle.angles.proofs.Guessed.{raised_is}
 use Rattle.angles.proofs.raised.Goals as goal
 

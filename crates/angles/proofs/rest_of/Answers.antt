@@ -1,5 +1,5 @@
 -- `angles::rest_of` meets its contract. Assumes nothing.
-use Rattle.std.proofs.Common.{sym, ◌∙◌, rules}
+use Rattle.std.proofs.Common.{sym, ◌∙◌}
 use Rattle.sines.proofs.Bounds.{rest_even, rest_odd, none}
 use Rattle.angles.proofs.rest_of.Goals as goal
 

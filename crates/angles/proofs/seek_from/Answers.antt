@@ -1,6 +1,5 @@
 -- `angles::seek_from` meets its contract. Assumes nothing.
-use Rattle.std.proofs.Common.{◌≡◌, ◌-◌, ◌≤◌, sym, refl, ◌∙◌, arith}
-use Rattle.sines.specs.Steps.{seek}
+use Rattle.std.proofs.Common.{◌-◌, sym, refl, ◌∙◌, arith}
 use Rattle.sines.proofs.Bounds.{sin_got, cos_got}
 use Rattle.angles.proofs.Seek.{turn_yes, turn_no, seek_end, fits_one, fits_two}
 use Rattle.angles.proofs.seek_from.Goals.{then-s-t, else-s-t}

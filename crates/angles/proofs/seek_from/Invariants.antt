@@ -1,7 +1,5 @@
-use Rattle.std.proofs.Common.{◌≡◌, ◌-◌, ◌≤◌, sym, refl, ◌∙◌, ⊎_elim, arith}
+use Rattle.std.proofs.Common.{◌≡◌, ◌-◌, ◌≤◌}
 use Rattle.sines.specs.Steps.{seek}
-use Rattle.sines.proofs.Bounds.{sin_got, cos_got}
-use Rattle.angles.proofs.Seek.{turn_yes, turn_no, seek_end, fits_one, fits_two}
 use Rattle.angles.proofs.seek_from.Given as goal
 
 abbrev pub invariant-loop-i : goal.invariant-loop-i

@@ -1,6 +1,5 @@
 -- `angles::sin` meets its contract. Assumes nothing.
 use lib.Ieee.{of_bits}
-use Rattle.std.proofs.Common.{rules}
 use Rattle.angles.proofs.Calls.{allowed, sin_in, sin_out}
 use Rattle.angles.proofs.sin.Goals as goal
 

@@ -1,6 +1,5 @@
 -- `angles::sine` meets its contract. Assumes nothing.
 use lib.Ieee.{of_bits}
-use Rattle.std.proofs.Common.{rules}
 use Rattle.angles.proofs.Calls.{allowed, sine_in, sine_out}
 use Rattle.angles.proofs.sine.Goals as goal
 

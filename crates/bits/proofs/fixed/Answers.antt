@@ -1,5 +1,4 @@
 -- `bits::fixed` meets its contract: the significand is shifted up, or down. Assumes nothing.
-use borrow.Author.Rules.{rules}
 use mathlib.Core.Path.{sym, ◌∙◌, subst}
 use Prim.Native.Nat.{ℕ, ◌<◌, ◌^◌}
 use native.Mathlib.Nat.{mod-eq_of_lt}

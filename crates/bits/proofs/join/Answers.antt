@@ -1,5 +1,4 @@
 -- `bits::join` meets its contract: its pattern has the exponent and one more in the exponent's field, and the digits below the leading one. Assumes nothing.
-use borrow.Author.Rules.{rules}
 use native.Mathlib.Omega.{arith}
 use mathlib.Core.Path.{sym, ◌∙◌}
 use Prim.Native.Nat.{◌+◌, ◌*◌}

@@ -1,5 +1,4 @@
 -- `bits::narrow` meets its contract: the pattern's digits are the numerator, and its exponent's field tells the denominator. Assumes nothing.
-use borrow.Author.Rules.{rules}
 use native.Mathlib.Omega.{arith}
 use mathlib.Core.Path.{sym, subst}
 use lib.Dec.{T}

@@ -1,5 +1,4 @@
 -- `bits::split` meets its contract: by the exponent's field, zero (a subnormal, whose digits are shifted up) or not. Assumes nothing.
-use borrow.Author.Rules.{rules}
 use native.Mathlib.Omega.{arith}
 use mathlib.Core.Path.{sym, subst}
 use lib.Dec.{T}

@@ -1,5 +1,4 @@
 -- `bits::to_nearest` meets its contract: m is shifted up to 64 digits, and the upper 24 are kept. Assumes nothing.
-use borrow.Author.Rules.{rules}
 use native.Mathlib.Omega.{arith}
 use mathlib.Core.Path.{◌≡◌, sym, ◌∙◌, subst}
 use mathlib.Core.Bool.{Bool, true, false}

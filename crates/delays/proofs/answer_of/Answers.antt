@@ -1,7 +1,6 @@
 -- `delays::answer_of` meets its contract: each arm is its case of the definition. Assumes nothing.
 use mathlib.Core.Path.{sym, ap}
 use lib.Ieee.{of_bits}
-use borrow.Author.Rules.{rules}
 use Rattle.delays.specs.Delays.{answer_of}
 use Rattle.delays.proofs.answer_of.Goals as goal
 

@@ -1,10 +1,10 @@
 -- `copy` meets its contract: a turn of its loop makes the replaced part one longer. Assumes nothing.
-use Prim.Native.Nat.{◌≤◌, ◌<◌, ◌-◌}
+use Prim.Native.Nat.{◌<◌, ◌-◌}
 use mathlib.Core.Path.{◌≡◌, ap, ◌∙◌}
 use mathlib.Core.List.{List}
 use lib.Ieee.{Float, nan}
 use native.Mathlib.Omega.{arith}
-use lib.ListN.{length, get_or, set, take}
+use lib.ListN.{length, get_or, set}
 use Rattle.lists.specs.Over.{over}
 use Rattle.lists.proofs.Laws.{copy_more}
 use borrow.Author.Rules.{rules}

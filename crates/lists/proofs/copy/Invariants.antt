@@ -1,12 +1,7 @@
-use Prim.Native.Nat.{◌≤◌, ◌<◌, ◌-◌}
-use mathlib.Core.Path.{◌≡◌, ap, ◌∙◌}
-use mathlib.Core.List.{List}
-use lib.Ieee.{Float, nan}
-use native.Mathlib.Omega.{arith}
-use lib.ListN.{length, get_or, set, take}
+use Prim.Native.Nat.{◌≤◌, ◌-◌}
+use mathlib.Core.Path.{◌≡◌}
+use lib.ListN.{length, take}
 use Rattle.lists.specs.Over.{over}
-use Rattle.lists.proofs.Laws.{copy_more}
-use borrow.Author.Rules.{rules}
 use Rattle.lists.proofs.copy.Given as goal
 
 abbrev pub invariant-loop-i : goal.invariant-loop-i

@@ -1,10 +1,10 @@
 -- `zeros` meets its contract: a turn of its loop makes the replaced part one longer. Assumes nothing.
-use Prim.Native.Nat.{◌≤◌, ◌<◌, ◌-◌}
+use Prim.Native.Nat.{◌<◌, ◌-◌}
 use mathlib.Core.Path.{◌≡◌, ap, ◌∙◌}
 use mathlib.Core.List.{List}
 use lib.Ieee.{Float, of_bits}
 use native.Mathlib.Omega.{arith}
-use lib.ListN.{length, set, replicate}
+use lib.ListN.{length, set}
 use Rattle.lists.specs.Over.{over}
 use Rattle.floats.specs.Floats.{zero32}
 use Rattle.lists.proofs.Laws.{fill_more}

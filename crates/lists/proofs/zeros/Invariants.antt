@@ -1,13 +1,8 @@
-use Prim.Native.Nat.{◌≤◌, ◌<◌, ◌-◌}
-use mathlib.Core.Path.{◌≡◌, ap, ◌∙◌}
-use mathlib.Core.List.{List}
-use lib.Ieee.{Float, of_bits}
-use native.Mathlib.Omega.{arith}
-use lib.ListN.{length, set, replicate}
+use Prim.Native.Nat.{◌≤◌, ◌-◌}
+use mathlib.Core.Path.{◌≡◌}
+use lib.ListN.{length, replicate}
 use Rattle.lists.specs.Over.{over}
 use Rattle.floats.specs.Floats.{zero32}
-use Rattle.lists.proofs.Laws.{fill_more}
-use borrow.Author.Rules.{rules}
 use Rattle.lists.proofs.zeros.Given as goal
 
 abbrev pub invariant-loop-i : goal.invariant-loop-i

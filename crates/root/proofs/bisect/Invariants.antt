@@ -1,8 +1,4 @@
-use Prim.Native.Nat.{ℕ, ◌+◌, ◌-◌, ◌*◌, ◌/◌, ◌^◌, ◌≤◌, ◌<◌}
-use native.Mathlib.Omega.{arith}
-use Rattle.root.specs.Near.{Near}
-use Rattle.root.proofs.Square.{mul_lt, sq_suc, near_next}
-use mathlib.Core.Path.{◌≡◌, subst}
+use Prim.Native.Nat.{◌-◌, ◌*◌, ◌^◌, ◌≤◌, ◌<◌}
 use Rattle.root.proofs.bisect.Given as goal
 
 abbrev pub invariant-loop-low : goal.invariant-loop-low

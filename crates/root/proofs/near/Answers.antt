@@ -1,5 +1,4 @@
 -- `root::near` meets its contract: the test of the guess shows it, or bisection does. Assumes nothing.
-use borrow.Author.Rules.{rules}
 use native.Mathlib.Omega.{arith}
 use Rattle.root.proofs.Square.{mul_lt, near_at, near_next}
 use Rattle.root.proofs.near.Goals as goal

@@ -1,5 +1,5 @@
 -- `sines::cos_from` meets its contract. Assumes nothing.
-use Rattle.std.proofs.Common.{ℕ, ◌≤◌, sym, subst, arith, lit≤, rules}
+use Rattle.std.proofs.Common.{ℕ, ◌≤◌, sym, subst, arith, lit≤}
 use Rattle.sines.proofs.Range.{below_word}
 use Rattle.sines.proofs.Scan.{scan_le}
 use Rattle.sines.proofs.Waves.{cos_is}

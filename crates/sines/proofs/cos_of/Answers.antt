@@ -1,6 +1,5 @@
 -- `sines::cos_of` meets its contract. Assumes nothing.
 use lib.Ieee.{of_bits}
-use Rattle.std.proofs.Common.{rules}
 use Rattle.sines.proofs.Range.{fix_asks}
 use Rattle.sines.proofs.Waves.{cosine_little, cosine_large}
 use Rattle.sines.proofs.cos_of.Goals as goal

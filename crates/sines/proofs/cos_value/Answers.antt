@@ -1,5 +1,4 @@
 -- `sines::cos_value` meets its contract. Assumes nothing.
-use Rattle.std.proofs.Common.{rules}
 use Rattle.sines.proofs.Waves.{cos_value_last}
 use Rattle.sines.proofs.cos_value.Goals as goal
 

@@ -1,6 +1,5 @@
 -- `sines::rest_64` meets its contract. Assumes nothing.
 use lib.Ieee.{sub}
-use Rattle.std.proofs.Common.{rules}
 use Rattle.sines.proofs.Waves.{rest_is}
 use Rattle.sines.proofs.rest_64.Goals as goal
 

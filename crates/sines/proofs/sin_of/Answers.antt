@@ -1,6 +1,5 @@
 -- `sines::sin_of` meets its contract. Assumes nothing.
 use lib.Ieee.{of_bits}
-use Rattle.std.proofs.Common.{rules}
 use Rattle.sines.proofs.Range.{fix_asks}
 use Rattle.sines.proofs.Waves.{sine_little, sine_large}
 use Rattle.sines.proofs.sin_of.Goals as goal

@@ -1,5 +1,4 @@
 -- `sines::sin_value` meets its contract. Assumes nothing.
-use Rattle.std.proofs.Common.{rules}
 use Rattle.sines.proofs.Waves.{sin_value_last}
 use Rattle.sines.proofs.sin_value.Goals as goal
 
