@@ -1,5 +1,5 @@
 -- `ceil` meets its contract: each way out is a law of Ceiling. Assumes nothing.
-use Rattle.std.proofs.Common.{◌<◌, true, false, T, pos, sym, ap, ◌∙◌, subst, arith, rules}
+use Rattle.std.proofs.Common.{◌<◌, true, false, T, pos, sym, ap, ◌∙◌, subst, arith}
 use lib.Ieee.{Float, fin, of_bits, lt}
 use Rattle.floats.specs.Floats.{zero32}
 use Rattle.floats.proofs.Cross.{of_taken}
