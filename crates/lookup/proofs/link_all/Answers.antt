@@ -1,8 +1,7 @@
 use mathlib.Core.Path.{◌≡◌, refl, sym, ap, ◌∙◌}
-use Prim.Native.Nat.{ℕ, ◌-◌, ◌<◌, ◌≤◌}
+use Prim.Native.Nat.{ℕ}
 use native.Mathlib.Omega.{arith}
-use lib.ListN.{length, length-set, set}
-use borrow.Author.Rules.{rules}
+use lib.ListN.{length-set, set}
 use Rattle.lookup.specs.Build.{links_of, owned_at, linked, over_both}
 use Rattle.lookup.proofs.Links as links
 use Rattle.lookup.proofs.link_all.Goals as goal

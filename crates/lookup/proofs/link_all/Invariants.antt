@@ -1,10 +1,7 @@
-use mathlib.Core.Path.{◌≡◌, refl, sym, ap, ◌∙◌}
-use Prim.Native.Nat.{ℕ, ◌-◌, ◌<◌, ◌≤◌}
-use native.Mathlib.Omega.{arith}
-use lib.ListN.{length, length-set, set}
-use borrow.Author.Rules.{rules}
-use Rattle.lookup.specs.Build.{links_of, owned_at, linked, over_both}
-use Rattle.lookup.proofs.Links as links
+use mathlib.Core.Path.{◌≡◌}
+use Prim.Native.Nat.{◌-◌, ◌<◌, ◌≤◌}
+use lib.ListN.{length}
+use Rattle.lookup.specs.Build.{links_of, linked, over_both}
 use Rattle.lookup.proofs.link_all.Given as goal
 
 abbrev pub invariant-loop-i : goal.invariant-loop-i

@@ -1,6 +1,4 @@
-use mathlib.Core.Path.{refl}
 use native.Mathlib.Omega.{arith}
-use borrow.Author.Rules.{rules}
 use Rattle.lookup.specs.Build.{links_of, owned_by}
 use Rattle.kdtree.specs.declared.Slot.TheVariants.{Left, Right, None}
 use Rattle.lookup.proofs.Links as links

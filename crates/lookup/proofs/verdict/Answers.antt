@@ -1,5 +1,4 @@
 use mathlib.Core.Path.{sym, ap}
-use borrow.Author.Rules.{rules}
 use Rattle.lookup.specs.Lookup.{verdict_in}
 use Rattle.lookup.proofs.verdict.Goals as goal
 

@@ -1,5 +1,4 @@
 use mathlib.Core.Path.{sym, ◌∙◌}
-use borrow.Author.Rules.{rules}
 use Rattle.lookup.specs.Lookup.{locate_of, tree_lengths, find_of}
 use Rattle.limits.specs.Refusals.{verdict_of, find_lines}
 use Rattle.limits.proofs.Passed.{find_passed}

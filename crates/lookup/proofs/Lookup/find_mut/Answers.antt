@@ -1,4 +1,3 @@
-use borrow.Author.Rules.{rules}
 use Rattle.lookup.specs.Lookup.{find_of, point_in, find_mut_of}
 use Rattle.lookup.proofs.Laws as laws
 use Rattle.lookup.proofs.Lookup.find_mut.Goals as goal

@@ -1,8 +1,6 @@
 use mathlib.Core.Path.{◌≡◌, ap, ◌∙◌}
-use Prim.Native.Nat.{◌-◌, ◌<◌, ◌≤◌}
 use native.Mathlib.Omega.{arith}
-use borrow.Author.Rules.{rules}
-use Rattle.lookup.specs.Build.{unmeasured, widened, lookup_of}
+use Rattle.lookup.specs.Build.{lookup_of}
 use Rattle.lookup.proofs.Laws as laws
 use Rattle.lookup.proofs.Lookup.measured.Goals as goal
 

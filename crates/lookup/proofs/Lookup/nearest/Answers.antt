@@ -1,4 +1,3 @@
-use borrow.Author.Rules.{rules}
 use Rattle.lookup.proofs.Laws as laws
 use Rattle.lookup.proofs.Lookup.nearest.Goals as goal
 

@@ -1,4 +1,3 @@
-use borrow.Author.Rules.{rules}
 use lib.Ieee.{of_bits}
 use Rattle.lookup.proofs.Laws as laws
 use Rattle.lookup.proofs.Lookup.normalize_radius.Goals as goal

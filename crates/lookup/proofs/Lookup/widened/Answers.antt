@@ -1,4 +1,3 @@
-use borrow.Author.Rules.{rules}
 use Rattle.lookup.specs.Build.{widened}
 use Rattle.lookup.proofs.Lookup.widened.Goals as goal
 
