@@ -3,7 +3,6 @@
 use mathlib.Core.Path.{◌≡◌, refl, sym, ap, ◌∙◌}
 use mathlib.Core.Bool.{Bool, true, false, cond}
 use mathlib.Core.List.{List}
-use mathlib.Core.Logic.{⊎_elim}
 use Prim.Native.Nat.{ℕ, zero, suc, ◌-◌, ◌<◌, ◌≤◌}
 use native.Mathlib.Omega.{arith}
 use lib.ListN.{get_or}
@@ -44,7 +43,7 @@ module _ (left right : List ℕ) (xs : List Float) (m own : ℕ) (p : Point3) wh
   unfolding cleared side_of
   passed_over Gone h t axis b = refl
   passed_over Bad h t axis b = refl
-  passed_over (To n) h t axis b = absurd (⊎_elim (λ z. omega (arith, z)) (λ z. omega (arith, z)) h)
+  passed_over (To n) h t axis b = absurd (h n refl)
 
   -- l is the link as the code has it, s as the lists have it
   module _ (n s axis : ℕ) (b : Clearing) (l : ℕ) (lk : Link) (el : l ≡ s) (ek : lk ≡ link_of m n l) where

@@ -8,6 +8,8 @@
 //
 // `clear` promises the clearing (`clearing_of`, specs/Clearing.antt), `nearest_in` the nearest of those in it (`nearest_within`), `alone` the
 // test (`alone_in`), `reach_after` how far the next one looks (`reach_after`): each for any lists and any f32.
+#![tactic(auto)]
+
 ghost use Rattle.std.specs.Prelude.{◌≡◌, cond, ℕ, ◌-◌, ◌*◌, ◌<◌, ◌≤◌, ltb, length};
 ghost use Rattle.kdtree.specs.Tree.{TreeHolds, subtree};
 ghost use Rattle.points.specs.Points.{point_at, dist_sq_of};
