@@ -5,6 +5,8 @@
 // What may be missing or bad is a named outcome (`Entry`, `Closest`, `Met`, `Gathered`), opened where it is met: a bad entry leaves with its refusal.
 // The query is measured as given, never drawn to the measured radii. What is blended of each ear is crate `mix`'s; laws of the weights are
 // crate `interpolate_laws`'s.
+#![tactic(auto)]
+
 ghost use Rattle.std.specs.Prelude.{◌≡◌, ◌&&◌, [], ◌∷◌, ◌++◌, map, ℕ, ◌+◌, ◌*◌, ◌≤◌, ◌<◌, length};
 ghost use Rattle.floats.specs.Floats.{zero32};
 ghost use Rattle.mix.specs.Mix.{sums, list_of, Sized, Placed};
