@@ -2,6 +2,8 @@
 //
 // A measurement's responses are parts of the caller's list and its neighbours the entries as they stand: `response_of`, `around_of`
 // (specs/Numbers.antt). `max_delay` is `max_delay_of` (specs/Longest.antt). What is refused, and in which order, is crate `limits`'s.
+#![tactic(auto)]
+
 ghost use Rattle.std.specs.Prelude.{◌≡◌, ◌+◌, ◌*◌, ◌<◌, ◌≤◌, length};
 ghost use Rattle.stored.specs.Numbers.{part_of, response_of, entries_of, around_of};
 ghost use Rattle.stored.specs.Longest.{longest_of, max_delay_of};

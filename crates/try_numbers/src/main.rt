@@ -2,6 +2,8 @@
 //
 // A value is printed as the eight digits of its bits, a NaN as 7fc00000. A verdict is `fine`, or
 // `refused` with document 01's number and place.
+#![tactic(auto)]
+
 mod calls;
 mod leaves;
 mod ranges;
