@@ -77,7 +77,7 @@ module _ {A : Type 0} where
   pub swap : {x y : A} {k m l : List A} → Put x k m → Put y m l → Between x y k l
   swap {y = y} {k = k} p here = record { middle = y ∷ k; first = here; second = there p }
   swap {k = k} here (there q) = record { middle = _; first = q; second = here }
-  swap (there {b = b} p) (there q) = let w = swap p q in record { middle = b ∷ w.middle; first = there w.first; second = there w.second }
+  swap (there {b = b} {k = k} p) (there q) = let w = swap {k = k} p q in record { middle = b ∷ w.middle; first = there w.first; second = there w.second }
 
   -- one more at the end of the first list, put anywhere into the second
   pub reordered_snoc : {x : A} {k l l' : List A} → Reordered k l → Put x l l' → Reordered (k ++ (x ∷ [])) l'

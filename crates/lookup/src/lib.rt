@@ -7,6 +7,8 @@
 //
 // The crate `lookup_laws` has what this means: the clamp's scale and its finite results, and a built tree that equals the bare one
 // filled in place order, so that no search over it is refused.
+#![tactic(auto)]
+
 ghost use Rattle.std.specs.Prelude.{◌≡◌, ◌+◌, ◌*◌, ◌<◌, ◌≤◌, length};
 ghost use Rattle.lookup.specs.Build.{links_of, owned_at, linked, over_both, unmeasured, widened, lookup_of, built_as, build_of};
 ghost use Rattle.lookup.specs.Lookup.{scaled, clamped_by, located_by, locate_of, find_of, verdict_in, moved_as, find_mut_of};

@@ -1,4 +1,5 @@
 use mathlib.Core.Path.{sym}
+use native.Mathlib.Omega.{arith}
 use Rattle.kdtree.specs.Geometry.{byAxis, byAxis-else, coord_of}
 use Rattle.kdtree.proofs.coord.Goals as goal
 
@@ -12,4 +13,4 @@ returns-in-1 c = rw c.in-1.is
 
 pub returns-in_default : goal.returns-in_default
 unfolding coord_of byAxis
-returns-in_default c = sym (byAxis-else _ _ _ _ c.in_default.in_default-own.rest.0.1 c.in_default.in_default-own.rest.1)
+returns-in_default c = sym (byAxis-else c.args.axis c.args.p.x c.args.p.y c.args.p.z (λ e. omega (arith, e)) (λ e. omega (arith, e)))

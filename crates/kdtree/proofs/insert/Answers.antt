@@ -42,13 +42,6 @@ insert_rec-requires c =
     let m = h.most in
     (omega arith, (omega arith, omega arith, omega arith, omega arith))
 
-pub overflow_cast-left : goal.overflow_cast-left
-overflow_cast-left c =
-    let a = c.args in
-    let z = lists_of a.positions.now a.left.now a.right.now a.numbers.now in
-    let h = room z a.count c.has_room.result c.has_room.ensures c.if-not-has_room.false in
-    omega (arith, h.most)
-
 pub offset_bounds-left-o : goal.offset_bounds-left-o
 offset_bounds-left-o c =
     let a = c.args in
@@ -71,13 +64,6 @@ write_node-requires-in-Left c =
     let z = lists_of a.positions.now a.left.now a.right.now a.numbers.now in
     let h = room z a.count c.has_room.result c.has_room.ensures c.if-not-has_room.false in
     simp length-set (h.positions, h.left, h.right, h.numbers)
-
-pub overflow_cast-right : goal.overflow_cast-right
-overflow_cast-right c =
-    let a = c.args in
-    let z = lists_of a.positions.now a.left.now a.right.now a.numbers.now in
-    let h = room z a.count c.has_room.result c.has_room.ensures c.if-not-has_room.false in
-    omega (arith, h.most)
 
 pub offset_bounds-right-o : goal.offset_bounds-right-o
 offset_bounds-right-o c =
