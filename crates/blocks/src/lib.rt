@@ -2,6 +2,8 @@
 //
 // `block` writes `block_of` and `form_error` writes `form_error` (specs/Blocks.antt) to the front of the list, and the rest of the list stays.
 // `block_room`, `refused_room` and `error_room` (proofs/Rooms.antt) say how many bytes are enough: 9 for each value and 120 more, 70 and 40.
+#![tactic(auto)]
+
 ghost use Rattle.std.specs.Prelude.{◌≡◌, ◌+◌, ◌≤◌, ◌∷◌, length};
 ghost use Rattle.lists.specs.Over.{over};
 ghost use Rattle.blocks.specs.Put.{FitsAt, Wrote};

@@ -137,19 +137,23 @@ small_between b (inf s) l k h = absurd h.held
 small_between b (fin false m e) l k h = (le_trans_f (neg b) zero32 (fin false m e) k (zero_le_nonneg (fin false m e) tt), h.most)
 small_between b (fin true m e) l k h = (neg_le (fin false m e) b h.most, le_trans_f (fin true m e) (neg zero32) b (neg_le zero32 (fin false m e) (zero_le_nonneg (fin false m e) tt)) l)
 
+neg_twice : (x : Float) → neg (neg x) ≡ x
+unfolding neg
+neg_twice nan = refl
+neg_twice (inf false) = refl
+neg_twice (inf true) = refl
+neg_twice (fin false m e) = refl
+neg_twice (fin true m e) = refl
+
+neg_fin : (m : ℕ) (e : ℤ) → neg (fin true m e) ≡ fin false m e
+unfolding neg
+neg_fin m e = refl
+
 pub between_small : (b x : Float) → T (finite x) → T (le (neg b) x) → T (le x b) → Small b x
 unfolding abs_of
 between_small b nan p lo hi = absurd p
 between_small b (inf s) p lo hi = absurd p
 between_small b (fin false m e) p lo hi = record { held = tt; most = hi }
-between_small b (fin true m e) p lo hi = record { held = tt; most = subst (λ (z : Float). T (le (fin false m e) z)) (twice b) (turned (neg_le (neg b) (fin true m e) lo)) }
-  where
-    twice : (x : Float) → neg (neg x) ≡ x
-    twice nan = unfold neg in refl
-    twice (inf false) = unfold neg in refl
-    twice (inf true) = unfold neg in refl
-    twice (fin false m e) = unfold neg in refl
-    twice (fin true m e) = unfold neg in refl
-
-    turned : T (le (neg (fin true m e)) (neg (neg b))) → T (le (fin false m e) (neg (neg b)))
-    turned h = unfold neg in h
+between_small b (fin true m e) p lo hi =
+    let turned : T (le (fin false m e) (neg (neg b))) = subst (λ (z : Float). T (le z (neg (neg b)))) (neg_fin m e) (neg_le (neg b) (fin true m e) lo) in
+    record { held = tt; most = subst (λ (z : Float). T (le (fin false m e) z)) (neg_twice b) turned }
