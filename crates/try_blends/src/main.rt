@@ -1,5 +1,7 @@
 // Every path through the blend and the plain filter, over one small set whose rows of the neighbour table are the cases. It prints each answer and
 // both outputs, values as the bits of an f32, every NaN as 7fc00000. Samples that a call leaves as they were would print as 41100000, which is 9.
+#![tactic(auto)]
+
 use delays::{Answer, Outcome};
 use points::Point3;
 
