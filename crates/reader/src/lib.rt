@@ -5,6 +5,8 @@
 // crate `stored`'s. What is refused, and in which order, is crate `limits`'s; the blend is crate `interpolate`'s.
 //
 // proofs/Near.antt: the number that a search answers is a measurement's.
+#![tactic(auto)]
+
 ghost use Rattle.std.specs.Prelude.{◌≡◌, length};
 ghost use Rattle.interpolate.specs.Blend.{filter_of};
 ghost use Rattle.lookup.specs.Lookup.{tree_lengths};
