@@ -1,4 +1,5 @@
 use mathlib.Core.Path.{sym, ◌∙◌}
+use mathlib.Core.List.{[]}
 use Prim.Native.Nat.{◌-◌, ◌%◌}
 use native.Mathlib.Nat.{sub-le}
 use lib.ListN.{length}
