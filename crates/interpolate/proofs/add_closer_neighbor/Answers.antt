@@ -1,6 +1,6 @@
 -- `interpolate::add_closer_neighbor` meets its contract: the closest of the pair is pushed where it is taken. Assumes nothing.
 use mathlib.Core.Path.{◌≡◌, sym, ap, subst, ◌∙◌}
-use mathlib.Core.List.{List, ◌++◌, append-nil}
+use mathlib.Core.List.{List, [], ◌++◌, append-nil}
 use native.Mathlib.Nat.{le_of_eq, le-add_right}
 use lib.Ieee.{of_bits}
 use Rattle.mix.specs.declared.Share.{Share}

@@ -1,5 +1,6 @@
 use mathlib.Core.Path.{sym, ◌∙◌}
 use Prim.Native.Nat.{◌-◌, ◌%◌}
+use mathlib.Core.List.{[]}
 use native.Mathlib.Nat.{sub-le}
 use lib.ListN.{length}
 use Rattle.limits.proofs.Lines.{none}

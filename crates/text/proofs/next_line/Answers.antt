@@ -1,7 +1,7 @@
 -- `text::next_line` meets its contract. The loop's invariant: what is left of the chunk makes of the bytes kept what the whole does, and past them the buffer is as it was. Assumes nothing.
 use Prim.Native.Nat.{ℕ, ◌+◌, min}
 use mathlib.Core.Path.{◌≡◌, refl, sym, ap, ◌∙◌}
-use mathlib.Core.List.{List, ◌∷◌, ◌++◌}
+use mathlib.Core.List.{List, [], ◌∷◌, ◌++◌}
 use native.Mathlib.Omega.{arith}
 use lib.ListN.{length, get_or, take, drop}
 use Rattle.lists.specs.Over.{over}
