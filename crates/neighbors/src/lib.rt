@@ -14,6 +14,8 @@
 //
 // The crate `neighbor_laws` has what this means for a set that was loaded: no entry is refused, so a load never says 9, and each
 // is absent or the number of another measurement.
+#![tactic(auto)]
+
 ghost use Rattle.std.specs.Prelude.{◌≡◌, ◌+◌, ◌*◌, ◌<◌, ◌≤◌, ◌&&◌, length, if◌then◌else◌, nat_lt};
 ghost use Rattle.std.specs.Float.Ieee.{eq};
 ghost use Rattle.kdtree.specs.Tree.{TreeHolds};

@@ -1,6 +1,7 @@
 use mathlib.Core.Path.{sym, ◌∙◌}
 use mathlib.Core.List.{[]}
 use Prim.Native.Nat.{◌-◌, ◌%◌}
+use mathlib.Core.List.{[]}
 use native.Mathlib.Nat.{sub-le}
 use lib.ListN.{length}
 use Rattle.limits.proofs.Lines.{none}
