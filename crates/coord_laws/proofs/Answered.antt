@@ -7,13 +7,11 @@ use mathlib.Core.Bool.{Bool, true, false, cond, ◌&&◌}
 use native.Mathlib.Omega.{arith}
 use borrow.Author.Tests.{ne_eqb}
 use lib.Dec.{T, lt→ltb}
-use lib.IntN.{ℤ}
 use lib.Ieee.{Float, nan, inf, fin, binary32, round, neg, add, mul, div, le, lt, eq, fits, of_bits}
 use lib.Ieee.Fits.{and_i, mul-fits, add-fits}
 use lib.Ieee.Positive.{positive, positive-finite}
 use lib.Ieee.Scale.{finite}
 use Rattle.floats.specs.Floats.{abs_of}
-use Rattle.floats.proofs.Cross.{cross→le}
 use Rattle.floats.proofs.Sign.{nonneg}
 use Rattle.floats.proofs.Ops.{finite_number, sq_nonneg, add_nonneg}
 use Rattle.points.specs.declared.Point3.{Point3}
@@ -22,10 +20,10 @@ use Rattle.root.specs.Root.{root_of}
 use Rattle.root.proofs.Laws.{root_of_positive}
 use Rattle.sines.specs.Sines.{plus_zero, sixteen, in_range, sine_steps, cosine_steps}
 use Rattle.angles.specs.declared.AngleAnswer.TheVariants.{Value, Refused}
-use Rattle.angles.specs.Arc.{signed_pi32, arctan_steps}
+use Rattle.angles.specs.Arc.{arctan_steps}
 use Rattle.angles.specs.Says.{sin_of, cos_of, atan2_of, sine_says, cosine_says, arctan_says}
 use Rattle.angle_laws.specs.Angle.{S, C, close_to}
-use Rattle.angle_laws.specs.Asked.{IsArc, Arctan}
+use Rattle.angle_laws.specs.Asked.{Arctan}
 use Rattle.angle_laws.proofs.Near.{sine_near, cosine_near}
 use Rattle.angle_laws.proofs.Zero.{arctan_good}
 use Rattle.limits.specs.Allowed as limits
@@ -33,11 +31,12 @@ use Rattle.limits.specs.Allowed.{nearest32, angle_ok, position_ok}
 use Rattle.limits.specs.Refusals.{triplets}
 use Rattle.limits.proofs.Passed.{Allowed, values_passed}
 use Rattle.limits.proofs.Ends.{between_low, between_high, between_finite, angle_finite}
-use Rattle.coords.specs.Coords.{per_degree, per_radian, full32, turn_of, flat_of, spherical_of}
+use Rattle.coords.specs.Coords.{per_degree, full32, turn_of, flat_of, spherical_of}
 use Rattle.coords.specs.Arrays.{lifted}
 use Rattle.coords.specs.Moderate.{Moderate}
 use Rattle.coord_laws.specs.Answered.{radians, TurnAnswered, ArcAnswered, ToCartesian, ToSpherical, ConversionsAnswered}
-use Rattle.coord_laws.proofs.Size.{Small, small_mul, small_add, small_rem, small_between, between_small}
+use Rattle.coords.proofs.Arcs.{arc_small, degrees_small, raised_small}
+use Rattle.coords.proofs.Size.{Small, small_mul, small_add, small_rem, small_between, between_small}
 use Rattle.coord_laws.proofs.Inside.{list_copied}
 
 -- a test that holds takes the first way
@@ -93,39 +92,7 @@ arc_answered y x p q =
       good = unfold atan2_of in subst (Arctan y x) (sym is) (arctan_good y x t);
     }
 
--- of any two floats it is at most the f32 nearest π: +0 where a call would be refused
-zero_small : Small (signed_pi32 false) plus_zero
-unfolding le lt eq abs_of
-zero_small = record { held = tt; most = tt }
-
-from_arc : (s : Bool) (m : ℕ) (e : ℤ) (t : Bool) (n : ℕ) (d : ℤ) (r : Float) → IsArc (fin s m e) (fin t n d) r → Small (signed_pi32 false) r
-unfolding IsArc abs_of
-from_arc s m e t n d nan h = absurd h
-from_arc s m e t n d (inf u) h = absurd h
-from_arc s m e t n d (fin u k g) h = record { held = tt; most = cross→le (fin false k g) (signed_pi32 false) tt tt (omega (arith, h.1.1.0)) }
-
-pub arc_small : (y x : Float) → Small (signed_pi32 false) (atan2_of y x)
-unfolding atan2_of Arctan abs_of
-arc_small nan x = zero_small
-arc_small (inf s) x = zero_small
-arc_small (fin s m e) nan = zero_small
-arc_small (fin s m e) (inf t) = zero_small
-arc_small (fin s zero e) (fin t n d) = subst (Small (signed_pi32 false)) (sym ((arctan_good (fin s 0 e) (fin t n d) tt).0 refl)) (go t)
-  where
-    go : (b : Bool) → Small (signed_pi32 false) (cond b (signed_pi32 s) (fin s 0 e))
-    go true = record { held = tt; most = unfold le lt eq in tt }
-    go false = record { held = tt; most = cross→le (fin false 0 e) (signed_pi32 false) tt tt (omega arith) }
-arc_small (fin s (suc m) e) (fin t n d) = from_arc s (suc m) e t n d (arctan_steps (fin s (suc m) e) (fin t n d)) ((arctan_good (fin s (suc m) e) (fin t n d) tt).1 (λ z. omega arith))
-
 -- ---- what `spherical_of` gives, of any point: an azimuth and an elevation of magnitude at most 360 and 180
-
-degrees_small : (a : Float) → Small (signed_pi32 false) a → Small (nearest32 180 1) (mul binary32 a per_radian)
-unfolding round mul div of_bits le lt eq abs_of
-degrees_small a h = small_mul binary32 (signed_pi32 false) per_radian (nearest32 180 1) a per_radian tt tt tt tt h (record { held = tt; most = tt })
-
-raised_small : (a : Float) → Small (nearest32 180 1) a → Small (nearest32 540 1) (add binary32 a full32)
-unfolding round add of_bits le lt eq abs_of
-raised_small a h = small_add binary32 (nearest32 180 1) full32 (nearest32 540 1) a full32 tt tt tt tt h (record { held = tt; most = tt })
 
 pub azimuth_small : (p : Point3) → Small full32 (spherical_of p).azimuth
 unfolding spherical_of

@@ -22,7 +22,7 @@ use Rattle.coords.specs.Arrays.{turned, lifted, by_triplets}
 use Rattle.coords.specs.Moderate.{Moderate}
 use Rattle.coords.proofs.Places.{changed_at}
 use Rattle.points.specs.Points.{point_at}
-use Rattle.coord_laws.proofs.Size.{Small, small_wider, small_mul, small_between, between_small}
+use Rattle.coords.proofs.Size.{Small, small_wider, small_mul, small_between, between_small}
 use Rattle.coord_laws.proofs.Turns.{rim, sin_small, cos_small}
 
 -- 10000, 10000.5 and 10001

@@ -1,4 +1,3 @@
-pub mod Size
 pub mod Turns
 pub mod Inside
 pub mod Answered

@@ -18,7 +18,7 @@ use Rattle.angle_laws.proofs.Chosen.{sin_le, cos_le}
 use Rattle.angle_laws.proofs.Reduce.{rest_small, rest_proper}
 use Rattle.angle_laws.proofs.Line.{sin_bot_pos, cos_bot_pos}
 use Rattle.angle_laws.proofs.Near.{sine_near, cosine_near}
-use Rattle.coord_laws.proofs.Size.{Small}
+use Rattle.coords.proofs.Size.{Small}
 
 -- ---- r is at most 1 in size, for any x
 

@@ -1,12 +1,14 @@
 -- The loop that changes a list three values at a time, for any change of a triplet: what is changed so far, followed by what is left to change,
 -- is the whole. Assumes nothing.
-use Prim.Native.Nat.{ℕ, suc, ◌+◌, ◌*◌, ◌/◌, ◌≤◌, ◌<◌}
+use Prim.Native.Nat.{ℕ, suc, ◌+◌, ◌*◌, ◌/◌, ◌^◌, ◌≤◌, ◌<◌}
 use mathlib.Core.Path.{◌≡◌, refl, ◌∙◌}
 use mathlib.Core.List.{List, [], ◌∷◌, ◌++◌, append_assoc}
 use native.Mathlib.Omega.{arith}
 use lib.ListN.{length, take, drop, get_or, set, length-append, length-drop, take-append-drop, length-set}
 use lib.Seq.{drop-cons, length-take-le, sets-eq, take_at, drop_at}
 use lib.Ieee.{Float, nan}
+use mir.Syntax.{w64}
+use mir.Val.{Fits}
 use Rattle.points.specs.declared.Point3.{Point3}
 use Rattle.points.specs.Points.{point_at}
 use Rattle.limits.specs.declared.Verdict.{Verdict}
@@ -18,13 +20,25 @@ use Rattle.coords.specs.Arrays.{turned, by_triplets, converted_as, kept_or, conv
 pub three_there : (place len : ℕ) → place < len / 3 → 3 * place + 2 < len
 three_there place len h = omega arith
 
+pub first_there : (i len : ℕ) → i + 2 < len → i < len
+first_there i len h = omega arith
+
+pub second_there : (i len : ℕ) → i + 2 < len → i + 1 < len
+second_there i len h = omega arith
+
 pub as_long : (i len₀ len : ℕ) → i < len₀ → len ≡ len₀ → i < len
 as_long i len₀ len h e = omega arith
+
+pub next_fits : (place len : ℕ) → place < len / 3 → len < 2 ^ 64 → Fits w64 (place + 1)
+next_fits place len h g = record { fits = omega arith }
 
 pub at_end : (place len₀ len : ℕ) → len₀ / 3 ≤ place → len ≡ len₀ → len < 3 * place + 3
 at_end place len₀ len h e = omega arith
 
 -- a store keeps the count
+pub in_set : (k : ℕ) (xs : List Float) (i : ℕ) (v : Float) → k < length xs → k < length (set xs i v)
+in_set k xs i v h = rw (length-set xs i v) h
+
 pub length_sets : (xs : List Float) (i j k : ℕ) (x y z : Float) → length (set (set (set xs i x) j y) k z) ≡ length xs
 length_sets xs i j k x y z = simp length-set
 

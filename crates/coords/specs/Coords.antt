@@ -18,6 +18,10 @@ half32 = of_bits binary32 0x43340000
 abbrev pub full32 : Float
 full32 = of_bits binary32 0x43b40000
 
+-- 720
+abbrev pub two_turns : Float
+two_turns = of_bits binary32 0x44340000
+
 -- π / 180, and q = 180 / π: quotients of f32, rounded
 abbrev pub per_degree : Float
 per_degree = div binary32 pi32 half32

@@ -11,8 +11,11 @@
 // allowed has coordinates of magnitude at most 10001, and no angle of an allowed conversion is refused.
 #![tactic(auto)]
 
-ghost use Rattle.std.specs.Prelude.{◌≡◌};
-ghost use Rattle.coords.specs.Coords.{turn_of, along_of, cartesian_of, radius_of, spherical_of};
+ghost use Rattle.std.specs.Prelude.{◌≡◌, true};
+ghost use Rattle.std.specs.Float.{binary32};
+ghost use Rattle.std.specs.Float.Ieee.{rem, lt};
+ghost use Rattle.floats.specs.Floats.{zero32};
+ghost use Rattle.coords.specs.Coords.{full32, two_turns, turn_of, along_of, cartesian_of, radius_of, spherical_of};
 ghost use Rattle.coords.specs.Arrays.{turned, by_triplets, converted_as, convert_of};
 
 use limits::Verdict;
@@ -68,6 +71,14 @@ pub fn radius(p: Point3) -> f32
     root::root(p.x * p.x + p.y * p.y + p.z * p.z)
 }
 
+// y % 360 of a y above 0 and below 720, which is less than two turns. `%` itself would ask for the C library's fmodf, and for one that not every host has.
+fn below_turn(y: f32) -> f32
+    requires { (lt zero32 y ≡ true) × (lt y two_turns ≡ true) }
+    ensures { result ≡ rem binary32 y full32 }
+{
+    if y < 360.0 { y } else { y - 360.0 }
+}
+
 pub fn cartesian_to_spherical(p: Point3) -> Spherical
     ensures { result ≡ spherical_of p }
 {
@@ -75,7 +86,7 @@ pub fn cartesian_to_spherical(p: Point3) -> Spherical
     let phi = angles::atan2(p.y, p.x);
     let theta = angles::atan2(p.z, root::root(p.x * p.x + p.y * p.y));
     Spherical {
-        azimuth: (phi * q + 360.0) % 360.0,
+        azimuth: below_turn(phi * q + 360.0),
         elevation: theta * q,
         radius: radius(p),
     }

@@ -25,7 +25,7 @@ use Rattle.limits.proofs.Ends.{angle_step_finite}
 use Rattle.coords.specs.declared.Spherical.{Spherical}
 use Rattle.coords.specs.Coords.{full32}
 use Rattle.coords.specs.Moderate.{Moderate}
-use Rattle.coord_laws.proofs.Size.{Small, small_wider, small_round, small_mul, small_mul_neg, small_add, between_small}
+use Rattle.coords.proofs.Size.{Small, small_wider, small_round, small_mul, small_mul_neg, small_add, between_small}
 use Rattle.coord_laws.proofs.Inside.{small_within}
 use Rattle.coord_laws.proofs.Answered.{turn_answered, azimuth_small, elevation_small, spherical_answered}
 use Rattle.neighbors.specs.Neighbors.{after, tilted, moved, step_of, angle_cap, cap_of}
