@@ -5,6 +5,8 @@
 // positions, copied or converted, the links of a tree filled in place order, and the six neighbours of each measurement.
 //
 // proofs/Bare.antt: the links of a loaded set are those of the bare tree filled in place order, and no search over them is refused.
+#![tactic(auto)]
+
 ghost use Rattle.std.specs.Prelude.{◌≡◌, ◌*◌, ◌<◌, ◌≤◌, length};
 ghost use Rattle.kdtree.specs.Tree.{TreeHolds};
 ghost use Rattle.loads.specs.Load.{cartesian_from, work_of, load_as, indexed, load_of};

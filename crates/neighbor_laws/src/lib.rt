@@ -5,3 +5,4 @@
 // any links a direction is absent exactly if each step before the end gives its own number. proofs/Caps.antt: for an allowed step the cap is 1 to 450.
 // specs/Answered.antt, proofs/Answered.antt: for an allowed step each azimuth of a search lies from -450 to 450 degrees and each elevation from -90 to 90, so
 // that sine and cosine are asked for nothing that the calls would refuse (`search_answered`).
+#![tactic(auto)]

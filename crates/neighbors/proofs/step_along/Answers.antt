@@ -1,5 +1,5 @@
 use Rattle.std.proofs.Common.{ne_eqb}
-use Rattle.neighbors.specs.Neighbors.{steps, step_of}
+use Rattle.neighbors.specs.Neighbors.{step_of}
 use lib.Ieee.{of_bits}
 use Rattle.neighbors.proofs.step_along.Goals as goal
 
