@@ -1,6 +1,8 @@
 // Tries the lookup and the neighbour table on one small set: two poles, zeros of both signs, a second radius and a measurement twice. It
 // prints the links, the bounds, the table and each answer, values as the bits of an f32, every NaN as 7fc00000. What stands behind a
 // list's written front was 7 in the links and 9 in the table.
+#![tactic(auto)]
+
 ghost use Rattle.std.specs.Prelude.{◌≤◌, length};
 ghost use Rattle.neighbors.specs.Built.{BuiltBy};
 
