@@ -29,7 +29,6 @@ fn main() {
         println!("cargo:rustc-link-search=native={}", dir.display());
     }
     println!("cargo:rustc-link-lib=static=sofa");
-    println!("cargo:rustc-link-lib=m");
 }
 
 /// What cargo says of the target.
