@@ -7,6 +7,8 @@
 //
 // proofs/Unique.antt: no contract here leaves a choice, proved of each function's own contract. The
 // modules are public so that the crate sofa_laws can cite those contracts too.
+#![tactic(auto)]
+
 ghost use Rattle.std.specs.Prelude.{◌≡◌};
 ghost use Rattle.root.specs.Root.{root_of};
 ghost use Rattle.angles.specs.Says.{sine_says, cosine_says, arctan_says};

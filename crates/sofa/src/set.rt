@@ -316,11 +316,7 @@ fn around(a: Around) -> SofaNeighbors
     }
 }
 
-pub fn sofa_neighbors_of(
-    sizes: Sizes,
-    neighbours: &[u16],
-    number: usize,
-) -> SofaNeighbors
+pub fn sofa_neighbors_of(sizes: Sizes, neighbours: &[u16], number: usize) -> SofaNeighbors
     ensures { result ≡ around_as (around_of sizes neighbours.now number) }
 {
     around(stored::neighbors_of(sizes, neighbours, number))

@@ -89,7 +89,9 @@ pub extern "C" fn sofa_tree_insert(
     ensures { left_by result (lists_of positions.new left.new right.new numbers.new)
         ≡ insert_says (lists_of positions.old left.old right.old numbers.old) count bounds x y z number }
 {
-    sofa::tree::sofa_tree_insert(count, bounds, positions, left, right, numbers, x, y, z, number)
+    sofa::tree::sofa_tree_insert(
+        count, bounds, positions, left, right, numbers, x, y, z, number,
+    )
 }
 
 #[unsafe(no_mangle)]
@@ -127,7 +129,19 @@ pub extern "C" fn sofa_load(
         ≡ load_told (load_of kind sizes positions.now (length responses.now) angle_step radius_step rate
         (work_of left.old right.old neighbours.old cartesian.old)) }
 {
-    sofa::set::sofa_load(kind, sizes, positions, responses, angle_step, radius_step, rate, left, right, neighbours, cartesian)
+    sofa::set::sofa_load(
+        kind,
+        sizes,
+        positions,
+        responses,
+        angle_step,
+        radius_step,
+        rate,
+        left,
+        right,
+        neighbours,
+        cartesian,
+    )
 }
 
 #[unsafe(no_mangle)]
@@ -181,7 +195,10 @@ pub extern "C" fn sofa_filter(
         ≡ filter_told (filter_says sizes look cartesian.now left.now right.now neighbours.now responses.now delays.now rate
         (point x y z) (length out_left.old) (length out_right.old)) }
 {
-    sofa::set::sofa_filter(sizes, look, cartesian, left, right, neighbours, responses, delays, rate, x, y, z, out_left, out_right)
+    sofa::set::sofa_filter(
+        sizes, look, cartesian, left, right, neighbours, responses, delays, rate, x, y, z,
+        out_left, out_right,
+    )
 }
 
 #[unsafe(no_mangle)]
@@ -204,7 +221,9 @@ pub extern "C" fn sofa_filter_nointerp(
         ≡ filter_told (plain_says sizes look cartesian.now left.now right.now responses.now delays.now rate
         (point x y z) (length out_left.old) (length out_right.old)) }
 {
-    sofa::set::sofa_filter_nointerp(sizes, look, cartesian, left, right, responses, delays, rate, x, y, z, out_left, out_right)
+    sofa::set::sofa_filter_nointerp(
+        sizes, look, cartesian, left, right, responses, delays, rate, x, y, z, out_left, out_right,
+    )
 }
 
 #[unsafe(no_mangle)]
