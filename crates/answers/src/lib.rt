@@ -4,6 +4,8 @@
 // `loads`, `lookup`, `reader` and `blocks`. proofs/Found.antt: where the filter is answered its measurement was found, so that a block
 // names a number or tells the filter's own refusal (`found_where_answered`). proofs/Few.antt: a set that was loaded has two ears and a
 // measurement, so that n is at most 2048 (`ready_few`).
+#![tactic(auto)]
+
 ghost use Rattle.std.specs.Prelude.{◌≡◌, ◌+◌, ◌*◌, ◌≤◌, length};
 ghost use Rattle.interpolate.specs.Blend.{filter_of};
 ghost use Rattle.loads.specs.Load.{work_of, load_as};
