@@ -130,12 +130,12 @@ module _ (m : ℕ) where
       go true = all_more l (weighed k x) h g
       go false = h
 
-  closer_in : (q : Point3) (sp : List Float) (b : Closer) (o : Option ℕ) → InSet m b.best_idx → InSet m o → InSet m (closer q sp 3 b o).best_idx
+  closer_in : (q : Point3) (ps : List Float) (b : Closer) (o : Option ℕ) → InSet m b.best_idx → InSet m o → InSet m (closer q ps 3 b o).best_idx
   unfolding closer
-  closer_in q sp b None h g = h
-  closer_in q sp b (Some k) h g = go (leb (length sp) (k * 3 + 2)) (lt (distance (triplet sp (k * 3)) q) b.best_dist)
+  closer_in q ps b None h g = h
+  closer_in q ps b (Some k) h g = go (leb (length ps) (k * 3 + 2)) (lt (distance (triplet ps (k * 3)) q) b.best_dist)
     where
-      go : (u v : Bool) → InSet m (cond u b (cond v (record { best_idx = Some k; best_dist = distance (triplet sp (k * 3)) q }) b)).best_idx
+      go : (u v : Bool) → InSet m (cond u b (cond v (record { best_idx = Some k; best_dist = distance (triplet ps (k * 3)) q }) b)).best_idx
       go true v = h
       go false true = g
       go false false = h
