@@ -3,6 +3,8 @@
 // Standard input holds a record for each set, as oracle/sample.rs writes and describes it (`oracle/run_all 7 320 0 sample`): what is given, and the source's
 // answers, or document 01's refusals. A word is eight hexadecimal digits and one byte behind them; the first word of a record says how many follow.
 // Past the end of a record every word is 0.
+#![tactic(auto)]
+
 use delays::Outcome;
 use kdtree::BoundingBox;
 use limits::{Sizes, Verdict};
