@@ -9,6 +9,8 @@
 // query comes before the set's last line, and nothing but queries after it (`text_in_order`). proofs/Each.antt: a loaded set prints one block for each
 // query, in their order (`each_block`). proofs/Keeps.antt: the limits of the text form hold after every line (`turn_sound`), so that the
 // program's lists are never too short (proofs/Enough.antt, `never_short`). proofs/Texts.antt: five short texts and all that is printed of them.
+#![tactic(auto)]
+
 ghost use Rattle.std.specs.Prelude.{◌≡◌, ◌+◌, ◌*◌, ◌≤◌, length};
 ghost use Rattle.lists.specs.Over.{over};
 ghost use Rattle.loads.specs.Load.{work_of};

@@ -15,7 +15,6 @@ use mir.Syntax.{w64}
 use mir.Val.{SFits, to_z, of_z}
 use mir.Facts.{to_z-of_z}
 use Rattle.io.specs.Counts.{clamp_len}
-use Rattle.libc.specs.Io.{Moved}
 use Rattle.text.specs.Machine.{At}
 use Rattle.queries.specs.declared.Phase.{Phase}
 use Rattle.queries.specs.declared.Run.{Run}
@@ -26,7 +25,7 @@ use Rattle.queries.proofs.Whole.{program}
 use Rattle.sofaquery.specs.declared.Flow.{Flow}
 use Rattle.sofaquery.specs.declared.Flow.TheVariants.{More, Ended, Unread, Unwritten}
 use Rattle.sofaquery.specs.declared.Went.{Went}
-use Rattle.sofaquery.specs.Calls.{goes_on, read_flow, after_read, write_flow, after_write, ListsHeld, held, held_after, Stand, stand_at, used_up, reading, turn_at, wrote_turn, Call, read, write, Answered, Ran, none, reads, turns, start_stand, Made, read_in, written_in}
+use Rattle.sofaquery.specs.Calls.{goes_on, read_flow, after_read, write_flow, after_write, ListsHeld, held, held_after, Stand, stand_at, used_up, reading, turn_at, wrote_turn, Call, read, write, Moved, Answered, Ran, none, reads, turns, start_stand, Made, read_in, written_in}
 
 -- ---- by what a call answered
 
@@ -160,11 +159,20 @@ module _ (left left' : ℕ) (fewer : left ≡ left' + 1) (a : ListsHeld) (chunk 
       let m5 : on (place t) rest (leb have to) t.phase = subst (on (place t) rest (leb have to)) p m4 in
       subst (λ (w : Went). Made left' (stand_at (place w.run) (drop w.at (take w.have chunk)) w.flow)) (sym said) m5
 
+-- where the calls lead from a place, by what was answered alone
+abbrev led_by : List Call → Stand → Stand
+led_by [] a = a
+led_by (read got bytes ∷ cs) a = led_by cs (reading a got bytes)
+led_by (write text ok ∷ cs) a = led_by cs (wrote_turn a ok)
+
+came_to : {a z : Stand} {cs : List Call} → Ran a cs z → z ≡ led_by cs a
+came_to none = refl
+came_to (reads got bytes h e f m) = came_to m
+came_to (turns ok h e f m) = came_to m
+
 -- What the system answered decides all: two runs of the same calls come to the same place, lists and all
 pub same_end : {a z y : Stand} {cs : List Call} → Ran a cs z → Ran a cs y → z ≡ y
-same_end none none = refl
-same_end (reads got bytes h e f m) (reads got' bytes' h' e' f' n) = same_end m n
-same_end (turns ok h e f m) (turns ok' h' e' f' n) = same_end m n
+same_end m n = came_to m ∙ sym (came_to n)
 
 -- ---- what the calls wrote
 

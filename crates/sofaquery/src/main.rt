@@ -8,6 +8,8 @@
 // (docs/EXCEPTIONS.md). Memory is the lists of `main` and one chunk, whatever the number of queries.
 //
 // Where the system fails to read or to write, nothing more is written, since the text then has no end to speak of, and one line on standard error says so.
+#![tactic(auto)]
+
 ghost use Rattle.std.specs.Prelude.{◌≤◌, ◌≡◌, true, length};
 ghost use Rattle.queries.specs.Sound.{Sound};
 ghost use Rattle.queries.specs.Machine.{start_run, Front};

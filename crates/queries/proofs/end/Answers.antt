@@ -1,0 +1,29 @@
+-- `queries::end` meets its contract. Assumes nothing.
+use Prim.Native.Nat.{ℕ}
+use mathlib.Core.Path.{◌≡◌, sym, ap, ◌∙◌}
+use mathlib.Core.List.{List, []}
+use native.Mathlib.Omega.{arith}
+use lib.ListN.{length}
+use Rattle.lists.specs.Over.{over}
+use Rattle.lists.proofs.Laws.{over_nil}
+use Rattle.settext.specs.Lines.{end_of}
+use Rattle.blocks.specs.Blocks.{form_error}
+use Rattle.blocks.proofs.Rooms.{error_room}
+use Rattle.queries.specs.Program.{end_text}
+use Rattle.queries.proofs.end.Goals as goal
+
+pub form_error-requires : goal.form_error-requires
+form_error-requires c = omega (arith, error_room c.in-Cut.k)
+
+pub returns-in-Fine : goal.returns-in-Fine
+returns-in-Fine c =
+    let a = c.args in
+    let e : end_text (end_of a.s a.rest.now) ≡ [] = ap end_text (sym c.at_end.ensures ∙ c.in-Fine.is) in
+    (sym (ap length e), sym (ap (λ (t : List ℕ). over t a.out.now) e ∙ over_nil a.out.now))
+
+pub returns-in-Cut : goal.returns-in-Cut
+returns-in-Cut c =
+    let a = c.args in
+    let e : end_text (end_of a.s a.rest.now) ≡ form_error c.in-Cut.k = ap end_text (sym c.at_end.ensures ∙ c.in-Cut.is) in
+    let w = c.form_error.ensures in
+    (w.0 ∙ ap length (sym e), w.1 ∙ ap (λ (t : List ℕ). over t a.out.now) (sym e))
