@@ -6,3 +6,4 @@
 // specs/Answered, proofs/Answered: sine, cosine and arctangent are asked for nothing that the calls
 // `sine`, `cosine` and `arctangent` would refuse, by any conversion that is not refused itself
 // (`conversions_answered`).
+#![tactic(auto)]

@@ -4,3 +4,4 @@
 // is the length of the list of points, one to four; the weights' sum is finite, above zero and no less than any of them; and each weight divided
 // by the sum lies from +0 to 1. Distances that overflow are no exception: their weight is +0. proofs/Distances.antt has why no distance is
 // negative or a NaN.
+#![tactic(auto)]

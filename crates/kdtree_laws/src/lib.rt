@@ -9,3 +9,4 @@
 // The way there: points' proofs/Gap.antt and proofs/Box.antt (no point in a box is nearer than the box, in rounded arithmetic), proofs/Pruned.antt
 // (so the search may pass the box over), proofs/First.antt (the walk names a first minimum), proofs/Rep.antt and proofs/Filled.antt (what the
 // lists draw after inserts).
+#![tactic(auto)]

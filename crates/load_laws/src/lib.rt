@@ -12,3 +12,4 @@
 // specs/Angles.antt: no angle of a load is refused, on one page. proofs/Angles.antt: each use of an angle is one that `sine`, `cosine` and `arctangent` answer
 // (`angles_answered`). proofs/Any.antt: with any angle functions that agree with these where they answer, the source converts and opens the same
 // (`any_converts`, `any_angles`), so the +0 that `sin`, `cos` and `atan2` give elsewhere is never seen.
+#![tactic(auto)]

@@ -8,3 +8,4 @@
 // proofs/Clamp.antt: the clamp's scale is at most 1 when it draws in (`scale_in`), an overflowing radius gives the origin
 // (`overflow_origin`), and the clamped coordinates of a finite query are finite (`clamped_finite`) for bounds as a load gives them
 // (proofs/Bounds.antt: `loaded_radii`).
+#![tactic(auto)]

@@ -11,3 +11,4 @@
 // proofs/Bare.antt (nearest), proofs/Built.antt and proofs/Linked.antt (lookup.rs: a loaded set is the bare tree filled in place order, by lookup_laws),
 // proofs/Caps.antt, proofs/Steps.antt, proofs/Table.antt and proofs/Rows.antt (neighbors.rs), proofs/Points.antt, proofs/Delays.antt, proofs/Ears.antt,
 // proofs/Blend.antt and proofs/Interpolate.antt (interpolate.rs and fill_filter).
+#![tactic(auto)]
