@@ -68,8 +68,8 @@ turn_answered d h =
     let cos_is = first (in_range (radians d)) (cosine_steps (radians d)) plus_zero r in
     record {
       within_range = r;
-      sine_says_lem = unfold sine_says turn_of sin_of in rw (sin_is) (first (in_range (radians d)) (Value (sine_steps (radians d))) (Refused 7 0) r);
-      cosine_says_lem = unfold cosine_says turn_of cos_of in rw (cos_is) (first (in_range (radians d)) (Value (cosine_steps (radians d))) (Refused 7 0) r);
+      sine_said = unfold sine_says turn_of sin_of in rw (sin_is) (first (in_range (radians d)) (Value (sine_steps (radians d))) (Refused 7 0) r);
+      cosine_said = unfold cosine_says turn_of cos_of in rw (cos_is) (first (in_range (radians d)) (Value (cosine_steps (radians d))) (Refused 7 0) r);
       near_sine = unfold turn_of sin_of in subst (λ (v : Float). close_to 1048576 v (S (radians d))) (sym sin_is) (sine_near (radians d) w r);
       near_cosine = unfold turn_of cos_of in subst (λ (v : Float). close_to 1048576 v (C (radians d))) (sym cos_is) (cosine_near (radians d) w r);
     }

@@ -25,8 +25,8 @@ radians degrees = mul binary32 degrees per_degree
 -- from -16 to 16: the two calls give the turn's values and no refusal, within document 01's bounds
 pub record TurnAnswered (degrees : Float) : Type 0 where
   pub within_range : T (in_range (radians degrees))
-  pub sine_says_lem : sine_says (radians degrees) ≡ Value (turn_of degrees).sin
-  pub cosine_says_lem : cosine_says (radians degrees) ≡ Value (turn_of degrees).cos
+  pub sine_said : sine_says (radians degrees) ≡ Value (turn_of degrees).sin
+  pub cosine_said : cosine_says (radians degrees) ≡ Value (turn_of degrees).cos
   pub near_sine : close_to 1048576 (turn_of degrees).sin (S (radians degrees))
   pub near_cosine : close_to 1048576 (turn_of degrees).cos (C (radians degrees))
 

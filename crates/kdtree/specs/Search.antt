@@ -23,10 +23,10 @@ visited s = record { place = s.place; dist = s.dist; visits = s.visits + 1 }
 
 -- the boxes of the two sides of a node whose coordinate is v
 unfoldable pub nearer_box : Bool → BoundingBox → ℕ → Float → BoundingBox
-nearer_box left_first_lem b axis v = cond left_first_lem (with_max b axis v) (with_min b axis v)
+nearer_box go_left b axis v = cond go_left (with_max b axis v) (with_min b axis v)
 
 unfoldable pub farther_box : Bool → BoundingBox → ℕ → Float → BoundingBox
-farther_box left_first_lem b axis v = cond left_first_lem (with_min b axis v) (with_max b axis v)
+farther_box go_left b axis v = cond go_left (with_min b axis v) (with_max b axis v)
 
 abbrev pub Go : Type 0
 Go = BoundingBox → ℕ → Best → Searched
@@ -49,8 +49,8 @@ module _ (count : ℕ) (q : Point3) where
   search gone b axis s = Found s
   search bad b axis s = Stopped
   search (node n p l r) b axis s =
-      let left_first_lem = left_first q p axis in
+      let go_left = left_first q p axis in
       let v = coord_of p axis in
-      let deeper = after_near (cond left_first_lem (search l) (search r) (nearer_box left_first_lem b axis v) (next_axis axis) (visited s))
-      (λ t. farther q (cond left_first_lem r l) (cond left_first_lem (search r) (search l)) (farther_box left_first_lem b axis v) (next_axis axis) (improve n (dist_sq_of p q) t)) in
+      let deeper = after_near (cond go_left (search l) (search r) (nearer_box go_left b axis v) (next_axis axis) (visited s))
+      (λ t. farther q (cond go_left r l) (cond go_left (search r) (search l)) (farther_box go_left b axis v) (next_axis axis) (improve n (dist_sq_of p q) t)) in
       cond (ltb s.visits count) deeper Stopped

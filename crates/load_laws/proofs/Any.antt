@@ -96,10 +96,10 @@ module _ (platform : Angles) (A : Agree platform) where
   point_to_cartesian : (p : Point3) → ToCartesian (lifted p) → spherical_to_cartesian platform p ≡ spherical_to_cartesian ported p
   unfolding spherical_to_cartesian turn_of
   point_to_cartesian p t =
-      let sp = A.sin _ _ t.azimuth.sine_says_lem in
-      let cp = A.cos _ _ t.azimuth.cosine_says_lem in
-      let st = A.sin _ _ t.elevation.sine_says_lem in
-      let ct = A.cos _ _ t.elevation.cosine_says_lem in
+      let sp = A.sin _ _ t.azimuth.sine_said in
+      let cp = A.cos _ _ t.azimuth.cosine_said in
+      let st = A.sin _ _ t.elevation.sine_said in
+      let ct = A.cos _ _ t.elevation.cosine_said in
       λ i. array (mul binary32 (cp i) (mul binary32 (ct i) p.z)) (mul binary32 (sp i) (mul binary32 (ct i) p.z)) (mul binary32 (st i) p.z)
 
   point_to_spherical : (p : Point3) → ToSpherical p → cartesian_to_spherical platform p ≡ cartesian_to_spherical ported p

@@ -7,7 +7,6 @@ use Rattle.bits.proofs.Wide.{Unit, unit_of, Read, read, no_nan, narrow_is}
 use Rattle.bits.proofs.narrow.Goals as goal
 
 -- what owning an `f64` tells: the format holds it
-
 held : (c : goal.Start) → T (fits binary64 c.args.w)
 held c = subst T (sym c.well_formed.1.0.1) tt
 

@@ -7,7 +7,6 @@ use Rattle.bits.proofs.Laws.{numeric_no_nan, split_middle, split_low, low_zeros}
 use Rattle.bits.proofs.split.Goals as goal
 
 -- what owning an `f32` tells: the format holds it
-
 held : (c : goal.Start) → T (fits binary32 c.args.x)
 held c = subst T (sym c.well_formed.0.1) tt
 

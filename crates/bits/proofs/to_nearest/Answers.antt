@@ -13,7 +13,6 @@ use Rattle.bits.proofs.Rounding.{rounded, shifted, rounded_bounds, to_nearest_is
 use Rattle.bits.proofs.to_nearest.Goals as goal
 
 -- past the test for 0
-
 some : (m : ℕ) → (m ≡ 0 → ⊥) → 0 < m
 some m h = omega arith
 

@@ -11,7 +11,6 @@ abbrev minus : Float
 minus = fin true 1 (pos 0)
 
 -- the whole part has 31 binary digits
-
 small : (c : goal.After-truncating_f32_to_u64-whole) → c.truncating_f32_to_u64-whole.result < 2147483648
 unfolding of_bits
 small c = ceil_small c.args.v _ c.truncating_f32_to_u64-whole.ensures c.if-v.true c.if-v-2.true

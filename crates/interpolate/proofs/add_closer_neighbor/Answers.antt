@@ -11,7 +11,6 @@ use Rattle.interpolate.proofs.Laws.{taken_yes, taken_no}
 use Rattle.interpolate.proofs.add_closer_neighbor.Goals as goal
 
 -- nothing is added
-
 none_more : (p : Points) (l : List Share) → l ≡ [] → list_of p ≡ list_of p ++ l
 none_more p l e = sym (append-nil (list_of p)) ∙ ap (λ (x : List Share). list_of p ++ x) (sym e)
 

@@ -43,7 +43,6 @@ pub returns-then-n-low : goal.returns-then-n-low
 returns-then-n-low c = omega arith
 
 -- after the loop high is low + 1
-
 next : (n low high : ℕ) → low < high → high ≤ low + 1 → n < high * high → low * low + low < n → Near n (low + 1)
 next n low high a b h k =
     let e : high ≡ low + 1 = omega arith in

@@ -10,7 +10,6 @@ use borrow.Author.Rules.{rules}
 use Rattle.text.proofs.digits.Goals as goal
 
 -- one digit on
-
 goes : (limit v i d : ℕ) (s : List ℕ) → i < length s → d ≡ digit_of (get_or s i 0) → d < 10 → at_most limit (num_from 10 v (drop i s)) ≡ at_most limit (num_from 10 (v * 10 + d) (drop (i + 1) s))
 goes limit v i d s h e k =
     ap (at_most limit)

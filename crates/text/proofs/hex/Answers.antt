@@ -10,7 +10,6 @@ use borrow.Author.Rules.{rules}
 use Rattle.text.proofs.hex.Goals as goal
 
 -- a digit more keeps the value below the next power
-
 next : (c : goal.Else-d-ge16) → c.loop-i.v * 16 + c.digit-d.result < 16 ^ (c.loop-i.i + 1)
 next c =
     room c.loop-i.i c.loop-i.v c.digit-d.result c.loop-i.invariant.2 c.if-d-ge16.false

@@ -27,7 +27,6 @@ returns-then-b-eq10 c =
     }
 
 -- the buffer holds the first bytes of the line so far
-
 held : (c : goal.After-slice_known-in-loop-i-1) → let a = c.args in
     take c.keep-u.result c.keep-u.new.buf ≡ take (length a.buf.now) (take c.loop-i.u c.loop-i.buf ++ (get_or a.chunk.now c.loop-i.i 0 ∷ []))
 held c =

@@ -13,7 +13,6 @@ use Rattle.text.proofs.Keys.{point_in_lem}
 use Rattle.text.proofs.point.Goals as goal
 
 -- three values and two commas
-
 long : (s : List ℕ) → values_ok s 3 ≡ true → 26 ≤ length s
 long s h = omega (arith, measured s 3 (lit< tt) h)
 

@@ -7,7 +7,6 @@ use Rattle.sofa.specs.Set.{answer_as}
 use Rattle.sofa.proofs.set.filtered.Goals as goal
 
 -- an answer of which it is known whether it was blended
-
 known : (t : Answer) (b : Bool) → t.blended ≡ b
     → ◌≡◌ {A = SofaFiltered} (record { reason = t.reason; place = t.place; blended = cond b 1 0; points = t.points; ldelay = t.left.0; rdelay = t.right.0 }) (answer_as t)
 known t b h = rw h
