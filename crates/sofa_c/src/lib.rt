@@ -1,5 +1,6 @@
 // What a C or Rust host links: each export is the function of its name in the crate `sofa`, with the same promise. An archive has only the exports
-// of its own crate, and a crate is a library or an archive, so they stand here and their proofs there.
+// of its own crate, and a crate is a library or an archive, so they stand here and their proofs there. proofs/Promised.antt: each export's own contract
+// says what that function's does.
 #![tactic(auto)]
 
 ghost use Rattle.std.specs.Prelude.{◌≡◌, length};
