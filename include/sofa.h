@@ -48,13 +48,13 @@
  *   stack    in bytes, as measured for the archive (tests/stack.c) and rounded up, the arguments that are handed over on it included. A
  *            level is one step down the tree: a set that comes in no order has about 35 for 16384 measurements, one that is sorted along
  *            all three axes as many as measurements. Where a host's symbols are bound late, the loader comes on top of it at the first
- *            call of memset (in a filter or a load), and puts the processor's registers there. Seen were
- *            3.1 KiB with glibc 2.36 on an x86-64 with AVX-512, and 1 KiB on a 64-bit Arm (1928 bytes against 888 for a load as it then
- *            was). Link with -z now, or count it, or make one such call on a roomier stack first.
+ *            call of memset (in a filter), and puts the processor's registers there. Seen were, at a first call of an earlier archive,
+ *            3.1 KiB with glibc 2.36 on an x86-64 with AVX-512, and 1 KiB on a 64-bit Arm. Link with -z now, or count it, or make one
+ *            such call on a roomier stack first.
  *
  * The archive, libsofa.a (bin/archive), is for Linux on x86-64 or on 64-bit Arm, any processor of the kind, and can stand in a shared
- * library. It needs the C library's memset, and nothing else. A shared library that should not hand
- * these names on, a plug-in for one, of which a process may hold two, is linked with -Wl,--exclude-libs,ALL (GNU ld and lld).
+ * library. It needs the C library's memset, and nothing else. A shared library that should not hand these names on, a plug-in for one,
+ * of which a process may hold two, is linked with -Wl,--exclude-libs,ALL (GNU ld and lld).
  *
  * Time (docs/SPEED.md): a find takes 0.5 to 3.7 microseconds, a filter of 512 taps 0.9 to 4.9. A load with steps 0.5 and 0.01 takes 8 ms
  * for 1000 measurements at random on a sphere and 0.14 s for 16384; on a grid 14 ms and 0.94 s. What makes it longer is order: a set sorted
