@@ -6,18 +6,6 @@ use Rattle.sines.specs.Sines.{plus_zero, one}
 use Rattle.angles.specs.Arc.{behind_of, best_steps, signed_pi32, arctan_steps}
 
 -- ---- the code's branches
-pub behind_1 : (x : Float) → lt x plus_zero ≡ true → true ≡ behind_of x
-unfolding behind_of
-behind_1 x h = sym (ap (λ (a : Bool). cond a true (cond (eq x plus_zero) (lt (div binary32 one x) plus_zero) false)) h)
-
-pub behind_2 : (x : Float) → lt x plus_zero ≡ false → eq x plus_zero ≡ true → lt (div binary32 one x) plus_zero ≡ behind_of x
-unfolding behind_of
-behind_2 x h k = sym (ap₂ (λ (a b : Bool). cond a true (cond b (lt (div binary32 one x) plus_zero) false)) h k)
-
-pub behind_3 : (x : Float) → lt x plus_zero ≡ false → eq x plus_zero ≡ false → false ≡ behind_of x
-unfolding behind_of
-behind_3 x h k = sym (ap₂ (λ (a b : Bool). cond a true (cond b (lt (div binary32 one x) plus_zero) false)) h k)
-
 pub tan_pi : (y x : Float) (w s : Bool) → eq y plus_zero ≡ true → w ≡ behind_of x → w ≡ true → lt (div binary32 one y) plus_zero ≡ s → cond s (signed_pi32 true) (signed_pi32 false) ≡ arctan_steps y x
 unfolding arctan_steps neg
 tan_pi y x w s a b c d = sym (ap₂ (λ (p q : Bool). cond p (cond q (cond (lt (div binary32 one y) plus_zero) (signed_pi32 true) (signed_pi32 false)) y) (best_steps y x)) a (sym b ∙ c) ∙ ap (λ (z : Bool). cond z (signed_pi32 true) (signed_pi32 false)) d)

@@ -8,7 +8,7 @@ use Rattle.bits.specs.Parts.{places}
 use Rattle.sines.specs.Sines.{plus_zero}
 use Rattle.bits.proofs.Wide.{or_le}
 use Rattle.angles.proofs.Sides.{lt_zero, zero_lt}
-use Rattle.angles.specs.Arc.{signed_pi32, grid_test, cert_of, ratio_of, arc_steps, best_steps}
+use Rattle.angles.specs.Arc.{signed_pi32, grid_test, cert_of, ratio_of, slope_of, arc_steps, best_steps}
 use Rattle.angles.specs.Guess.{arc_guess}
 
 -- ---- the size of a float is not below zero
@@ -63,18 +63,18 @@ body y x b back s p q =
     let c = abs_of (arc_guess back p q) in
     cond (cert_of back (cond b t 2147483648) (cond b 2147483648 t) c) (cond s (neg c) c) (arc_steps y x)
 
-module _ (y x p q : Float) (b s : Bool) (t : ℕ) (c : Float) (k : Bool) (ep : p ≡ abs_of y) (eq' : q ≡ abs_of x) (eb : le p q ≡ b)
-    (et : t ≡ cond b (ratio_of p q) (ratio_of q p)) (ec : c ≡ abs_of (arc_guess (lt x plus_zero) p q)) (ek : k ≡ cert_of (lt x plus_zero) (cond b t 2147483648) (cond b 2147483648 t) c) where
+module _ (y x c : Float) (py px : ℕ) (back k : Bool) (e : back ≡ lt x plus_zero) (ey : py ≡ cond (le (abs_of y) (abs_of x)) (slope_of y x) 2147483648)
+    (ex : px ≡ cond (le (abs_of y) (abs_of x)) 2147483648 (slope_of y x)) (ec : c ≡ abs_of (arc_guess (lt x plus_zero) (abs_of y) (abs_of x))) (ek : k ≡ cert_of back py px c) where
   whole_best : best_steps y x ≡ cond k (cond (lt y plus_zero) (neg c) c) (arc_steps y x)
-  unfolding best_steps
+  unfolding best_steps slope_of
   whole_best =
-      ap₂ (λ (u v : Float). body y x (le u v) (lt x plus_zero) (lt y plus_zero) u v) (sym ep) (sym eq')
-      ∙ ap (λ (u : Bool). body y x u (lt x plus_zero) (lt y plus_zero) p q) eb
-      ∙ ap₂ (λ (u : ℕ) (v : Float). cond (cert_of (lt x plus_zero) (cond b u 2147483648) (cond b 2147483648 u) v) (cond (lt y plus_zero) (neg v) v) (arc_steps y x)) (sym et) (sym ec)
+      ap (λ (v : Float). cond (cert_of (lt x plus_zero) (cond (le (abs_of y) (abs_of x)) (slope_of y x) 2147483648) (cond (le (abs_of y) (abs_of x)) 2147483648 (slope_of y x)) v) (cond (lt y plus_zero) (neg v) v) (arc_steps y x)) (sym ec)
+      ∙ ap₂ (λ (b : Bool) (u : ℕ). cond (cert_of b u (cond (le (abs_of y) (abs_of x)) 2147483648 (slope_of y x)) c) (cond (lt y plus_zero) (neg c) c) (arc_steps y x)) (sym e) (sym ey)
+      ∙ ap (λ (v : ℕ). cond (cert_of back py v c) (cond (lt y plus_zero) (neg c) c) (arc_steps y x)) (sym ex)
       ∙ ap (λ (u : Bool). cond u (cond (lt y plus_zero) (neg c) c) (arc_steps y x)) (sym ek)
 
-  pub best_yes : k ≡ true → lt y plus_zero ≡ s → cond s (neg c) c ≡ best_steps y x
-  best_yes h l = sym (whole_best ∙ ap₂ (λ (u v : Bool). cond u (cond v (neg c) c) (arc_steps y x)) h l)
+  pub best_yes : k ≡ true → (r : Float) → r ≡ cond (lt y plus_zero) (neg c) c → r ≡ best_steps y x
+  best_yes h r f = f ∙ sym (whole_best ∙ ap (λ (u : Bool). cond u (cond (lt y plus_zero) (neg c) c) (arc_steps y x)) h)
 
   pub best_no : k ≡ false → (r : Float) → r ≡ arc_steps y x → r ≡ best_steps y x
-  best_no h r e = e ∙ sym (whole_best ∙ ap (λ (u : Bool). cond u (cond (lt y plus_zero) (neg c) c) (arc_steps y x)) h)
+  best_no h r f = f ∙ sym (whole_best ∙ ap (λ (u : Bool). cond u (cond (lt y plus_zero) (neg c) c) (arc_steps y x)) h)

@@ -132,6 +132,3 @@ flat_of_lem y x p q t ep eq' h = subst₂ (λ (u v : Float). Asks u v) (sym ep) 
 
 pub steep_of : (y x p q : Float) → T (usable y x) → p ≡ abs_of y → q ≡ abs_of x → le p q ≡ false → Asks q p
 steep_of y x p q t ep eq' h = subst₂ (λ (u v : Float). Asks u v) (sym eq') (sym ep) ((sides_of y x t).steep_asks (sym (ap₂ (λ (u v : Float). le u v) ep eq') ∙ h))
-
-pub small_t : (t r : ℕ) → t ≡ r → r ≤ 2147484168 → t ≤ 4294967296
-small_t t r e h = omega arith

@@ -33,6 +33,11 @@ unfoldable pub ratio_of : Float → Float → ℕ
 unfolding mul div to_unsigned
 ratio_of lo big = to_unsigned 64 (mul binary32 (div binary32 lo big) (fin false 1 (pos 31)))
 
+-- the lesser of |y| and |x| over the larger
+unfoldable pub slope_of : Float → Float → ℕ
+unfolding abs_of ratio_of
+slope_of y x = cond (le (abs_of y) (abs_of x)) (ratio_of (abs_of y) (abs_of x)) (ratio_of (abs_of x) (abs_of y))
+
 -- the angle of the eighth o, as a float: j, π/2 - j, π/2 + j, π - j
 unfoldable pub angle_of : ℕ → ℕ → Float
 unfolding mul of_int

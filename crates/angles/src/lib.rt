@@ -7,18 +7,21 @@
 // `angle_laws`.
 //
 // `sin`, `cos` and `atan2` take every f32 and give +0 where document 01 has the call refused. `sine`,
-// `cosine` and `arctangent` say so instead, with document 01's number and place.
+// `cosine` and `arctangent` refuse instead.
 #![tactic(auto)]
 
-ghost use Rattle.std.specs.Prelude.{◌≡◌, ◌+◌, ◌-◌, ◌*◌, ◌/◌, ◌%◌, ◌<◌, ◌≤◌, min, true, false, not, ◌&&◌, T, pos};
+ghost use Rattle.std.specs.Prelude.{All, reverse, ◌≡◌, ◌+◌, ◌-◌, ◌*◌, ◌/◌, ◌%◌, ◌<◌, ◌≤◌, min, true, false, cond, not, ◌&&◌, T, pos};
 ghost use Rattle.std.specs.Float.{fin, binary32};
-ghost use Rattle.std.specs.Float.Ieee.{lt, mul, div, of_int};
+ghost use Rattle.std.specs.Float.Ieee.{le, lt, neg, mul, div, of_int};
 ghost use Rattle.std.specs.Float.Ieee.Scale.{finite};
-ghost use Rattle.sines.specs.Steps.{rest, sin_fix, cos_fix, seek};
+ghost use Rattle.floats.specs.Floats.{abs_of};
+ghost use Rattle.sines.specs.Steps.{rest, nest, sin_fix, cos_fix, seek};
 ghost use Rattle.sines.specs.Sines.{plus_zero};
 ghost use Rattle.angles.specs.Guess.{tail_of, raised_of, lowered_of, atan_low, atan_high, atan_guess, arc_guess};
-ghost use Rattle.angles.specs.Arc.{usable, ratio_of, angle_of, eighth_of, arc_steps, behind_of, minus_size, plus_over, line_test, turn_test, grid_test, cert_of, best_steps, arctan_steps};
+ghost use Rattle.angles.specs.Arc.{usable, ratio_of, slope_of, angle_of, eighth_of, arc_steps, behind_of, minus_size, plus_over, line_test, turn_test, grid_test, cert_of, best_steps, arctan_steps};
 ghost use Rattle.angles.specs.Says.{sin_of, cos_of, atan2_of, sine_says, cosine_says, arctan_says};
+
+use refusals::{Refusal, allow};
 
 // One level of the nested form: 1 - t / c * h, where 2^30 stands for 1.
 fn level(t: u64, h: u64, c: u64) -> u64
@@ -30,20 +33,26 @@ fn level(t: u64, h: u64, c: u64) -> u64
     1073741824 - t * h / 1073741824 / c
 }
 
+// The nested form over the divisors, the innermost first.
+fn nest(t: u64, divisors: &[u64]) -> u64
+    requires small { t ≤ 1073741824 }
+    requires divisors { All (λ c. 1 ≤ c) divisors.now }
+    ensures { result ≡ nest 1073741824 t (reverse divisors.now) }
+{
+    let mut h = 1073741824;
+    for &c in divisors {
+        h = level(t, h, c);
+    }
+    h
+}
+
 // The sine, in units of 2^-31, of an angle in units of 2^-34.
 fn sin_fix(a: u64) -> u64
     requires { a < 17179869184 }
     ensures { result ≡ sin_fix a }
 {
     let b = a / 4;
-    let t = b * b / 17179869184;
-    let h6 = level(t, 1073741824, 156);
-    let h5 = level(t, h6, 110);
-    let h4 = level(t, h5, 72);
-    let h3 = level(t, h4, 42);
-    let h2 = level(t, h3, 20);
-    let h1 = level(t, h2, 6);
-    a * h1 / 8589934592
+    a * nest(b * b / 17179869184, &[156, 110, 72, 42, 20, 6]) / 8589934592
 }
 
 // The cosine, in units of 2^-31, of an angle in units of 2^-34.
@@ -52,15 +61,7 @@ fn cos_fix(a: u64) -> u64
     ensures { result ≡ cos_fix a }
 {
     let b = a / 4;
-    let t = b * b / 17179869184;
-    let h7 = level(t, 1073741824, 182);
-    let h6 = level(t, h7, 132);
-    let h5 = level(t, h6, 90);
-    let h4 = level(t, h5, 56);
-    let h3 = level(t, h4, 30);
-    let h2 = level(t, h3, 12);
-    let h1 = level(t, h2, 2);
-    2 * h1
+    2 * nest(b * b / 17179869184, &[182, 132, 90, 56, 30, 12, 2])
 }
 
 // |r| in units of 2^-34.
@@ -71,17 +72,9 @@ fn rest_of(q: u64, x: u64) -> u64
 {
     let b = (q + q % 2) * 226375608064910088 / 1024;
     if q % 2 == 0 {
-        if b <= x * 256 {
-            (x * 256 - b) / 16384
-        } else {
-            0
-        }
+        (x * 256).saturating_sub(b) / 16384
     } else {
-        if x * 256 <= b {
-            (b - x * 256) / 16384
-        } else {
-            0
-        }
+        b.saturating_sub(x * 256) / 16384
     }
 }
 
@@ -92,8 +85,7 @@ fn seek_from(t: u64) -> u64
 {
     let mut lo: u64 = 0;
     let mut hi: u64 = 13176795;
-    let mut i: u64 = 0;
-    while i < 24 {
+    for _ in 0..24_u32 {
         let mid = (lo + hi) / 2;
         let s = sin_fix(mid * 1024);
         let k = cos_fix(mid * 1024);
@@ -102,7 +94,6 @@ fn seek_from(t: u64) -> u64
         } else {
             hi = mid;
         }
-        i += 1;
     }
     lo
 }
@@ -116,12 +107,6 @@ fn ratio_of(lo: f32, big: f32) -> u64
     std::num::truncating_f32_to_u64(lo / big * 2147483648.0)
 }
 
-fn least(a: u64, b: u64) -> u64
-    ensures { result ≡ min a b }
-{
-    if a <= b { a } else { b }
-}
-
 // w times `unit`, for a w that a float holds.
 fn times(w: u64, unit: f32) -> f32
     requires { w < 16777216 }
@@ -131,6 +116,7 @@ fn times(w: u64, unit: f32) -> f32
 }
 
 // The angle of the eighth o: j, π/2 - j, π/2 + j, π - j.
+// Eighths and quadrants are numbers, opened by a match: document 01 has them so.
 fn angle_of(o: u64, j: u64) -> f32
     requires { j < 13176795 }
     ensures { result ≡ angle_of o j }
@@ -138,17 +124,29 @@ fn angle_of(o: u64, j: u64) -> f32
     match o {
         0 => times(j, 0.000000059604644775390625),
         1 => {
-            let m = least(j, 13176792);
+            let m = j.min(13176792);
             times(13176794 - (m + 1) / 2, 0.00000011920928955078125)
         }
         2 => {
-            let m = least(j, 13176788);
+            let m = j.min(13176788);
             times(6588398 + m / 4, 0.0000002384185791015625)
         }
         _ => {
-            let m = least(j, 13176788);
+            let m = j.min(13176788);
             times(13176794 - (m + 3) / 4, 0.0000002384185791015625)
         }
+    }
+}
+
+// The eighth of the half circle, from whether |y| <= |x| and whether x < 0.
+fn eighth_of(flat: bool, back: bool) -> u64
+    ensures { result ≡ eighth_of flat back }
+{
+    match (flat, back) {
+        (true, false) => 0,
+        (false, false) => 1,
+        (false, true) => 2,
+        (true, true) => 3,
     }
 }
 
@@ -157,11 +155,29 @@ fn arc_size(flat: bool, back: bool, t: u64) -> f32
     requires { t ≤ 4294967296 }
     ensures { result ≡ angle_of (eighth_of flat back) (seek 24 t 0 13176795) }
 {
-    let j = seek_from(t);
-    if flat {
-        if back { angle_of(3, j) } else { angle_of(0, j) }
+    angle_of(eighth_of(flat, back), seek_from(t))
+}
+
+// a, negated where `minus`.
+fn signed(minus: bool, a: f32) -> f32
+    ensures { result ≡ cond minus (neg a) a }
+{
+    if minus { -a } else { a }
+}
+
+// The lesser of |y| and |x| over the larger, in units of 2^-31.
+// `usable` is asked of two floats, `atan2`'s arguments: a struct of them would be opened at once in each function.
+fn slope(y: f32, x: f32) -> u64
+    requires { T (usable y x) }
+    ensures value { result ≡ slope_of y x }
+    ensures small { result ≤ 2147484168 }
+{
+    let p = floats::abs(y);
+    let q = floats::abs(x);
+    if p <= q {
+        ratio_of(p, q)
     } else {
-        if back { angle_of(2, j) } else { angle_of(1, j) }
+        ratio_of(q, p)
     }
 }
 
@@ -170,18 +186,12 @@ fn arc(y: f32, x: f32) -> f32
     requires { T (usable y x) }
     ensures { result ≡ arc_steps y x }
 {
-    let p = floats::abs(y);
-    let q = floats::abs(x);
-    if p <= q {
-        let a = arc_size(true, x < 0.0, ratio_of(p, q));
-        if y < 0.0 { -a } else { a }
-    } else {
-        let a = arc_size(false, x < 0.0, ratio_of(q, p));
-        if y < 0.0 { -a } else { a }
-    }
+    let flat = floats::abs(y) <= floats::abs(x);
+    signed(y < 0.0, arc_size(flat, x < 0.0, slope(y, x)))
 }
 
 // About 1 - atan(u) / u.
+#[tactic(auto, unfolding(crate::specs::Guess::tail_of))]
 fn tail(u: f32) -> f32
     ensures { result ≡ tail_of u }
 {
@@ -201,6 +211,7 @@ fn tail(u: f32) -> f32
 }
 
 // h + l + atan(u).
+#[tactic(auto, unfolding(crate::specs::Guess::raised_of))]
 fn raised(h: f32, l: f32, u: f32) -> f32
     ensures { result ≡ raised_of h l u }
 {
@@ -208,6 +219,7 @@ fn raised(h: f32, l: f32, u: f32) -> f32
 }
 
 // π/2 - atan(t).
+#[tactic(auto, unfolding(crate::specs::Guess::lowered_of))]
 fn lowered(t: f32) -> f32
     ensures { result ≡ lowered_of t }
 {
@@ -215,6 +227,7 @@ fn lowered(t: f32) -> f32
 }
 
 // atan(x), x below 7/16.
+#[tactic(auto, unfolding(crate::specs::Guess::atan_low))]
 fn atan_low(x: f32) -> f32
     ensures { result ≡ atan_low x }
 {
@@ -226,6 +239,7 @@ fn atan_low(x: f32) -> f32
 }
 
 // atan(x), x from 7/16 on: from atan(1/2), π/4, atan(3/2) or π/2.
+#[tactic(auto, unfolding(crate::specs::Guess::atan_high))]
 fn atan_high(x: f32) -> f32
     ensures { result ≡ atan_high x }
 {
@@ -254,6 +268,7 @@ fn atan_high(x: f32) -> f32
     }
 }
 
+#[tactic(auto, unfolding(crate::specs::Guess::atan_guess))]
 fn atan_guess(x: f32) -> f32
     ensures { result ≡ atan_guess x }
 {
@@ -265,6 +280,7 @@ fn atan_guess(x: f32) -> f32
 }
 
 // The size of the angle of (p, s), the sizes of y and x: a guess.
+#[tactic(auto, unfolding(crate::specs::Guess::arc_guess))]
 fn arc_guess(back: bool, p: f32, s: f32) -> f32
     ensures { result ≡ arc_guess back p s }
 {
@@ -277,6 +293,7 @@ fn arc_guess(back: bool, p: f32, s: f32) -> f32
 }
 
 // The size of ± u - ± v.
+// A sign and a size both hold always, so a sign is no flag of an `Option`; an i64 would not hold the sum.
 fn gap(a: bool, u: u64, b: bool, v: u64) -> u64
     requires { (u ≤ 6917529027641081856)
         × (v ≤ 6917529027641081856) }
@@ -285,7 +302,7 @@ fn gap(a: bool, u: u64, b: bool, v: u64) -> u64
     if sines::differ(a, b) {
         u + v
     } else {
-        if u <= v { v - u } else { u - v }
+        u.abs_diff(v)
     }
 }
 
@@ -295,83 +312,89 @@ fn ahead(a: bool, u: u64, b: bool, v: u64) -> bool
         × (v ≤ 6917529027641081856) }
     ensures { result ≡ plus_over a u b v }
 {
-    if a {
-        if b {
-            false
+    match (a, b) {
+        (false, false) => 1152921504606846976 <= u + v,
+        (false, true) => v + 1152921504606846976 <= u,
+        (true, false) => u + 1152921504606846976 <= v,
+        (true, true) => false,
+    }
+}
+
+// Where (x, y) lies: x below zero where `back`, and |y| and |x| in units of 2^-31 of the larger.
+#[derive(Clone, Copy)]
+struct Direction {
+    back: bool,
+    py: u64,
+    px: u64,
+    ghost small: { (py ≤ 2147484168) × (px ≤ 2147484168) },
+}
+
+impl Direction {
+    fn of(y: f32, x: f32) -> Direction
+        requires { T (usable y x) }
+        ensures back { result.back ≡ lt x plus_zero }
+        ensures py { result.py ≡ cond (le (abs_of y) (abs_of x)) (slope_of y x) 2147483648 }
+        ensures px { result.px ≡ cond (le (abs_of y) (abs_of x)) 2147483648 (slope_of y x) }
+    {
+        let back = x < 0.0;
+        let t = slope(y, x);
+        if floats::abs(y) <= floats::abs(x) {
+            Direction {
+                back,
+                py: t,
+                px: 2147483648,
+            }
         } else {
-            u + 1152921504606846976 <= v
-        }
-    } else {
-        if b {
-            v + 1152921504606846976 <= u
-        } else {
-            1152921504606846976 <= u + v
+            Direction {
+                back,
+                py: 2147483648,
+                px: t,
+            }
         }
     }
-}
 
-// Whether the direction (± vc, ± vs) lies along (x, y), in units of 2^-31.
-fn on_line(back: bool, py: u64, px: u64, ns: bool, vs: u64, nc: bool, vc: u64) -> bool
-    requires { (py ≤ 2147484168)
-        × (px ≤ 2147484168)
-        × (vs ≤ 2147483648)
-        × (vc ≤ 2147483648) }
-    ensures { result ≡ line_test back py px ns vs nc vc }
-{
-    if gap(nc, py * vc, sines::differ(back, ns), px * vs) <= 8796093022208 {
-        ahead(sines::differ(back, nc), px * vc, ns, py * vs)
-    } else {
-        false
+    // Whether (± vc, ± vs), in units of 2^-31, lies along it.
+    fn on_line(self, ns: bool, vs: u64, nc: bool, vc: u64) -> bool
+        requires { (vs ≤ 2147483648)
+            × (vc ≤ 2147483648) }
+        ensures { result ≡ line_test self.back self.py self.px ns vs nc vc }
+    {
+        let Direction { back, py, px } = self;
+        gap(nc, py * vc, sines::differ(back, ns), px * vs) <= 8796093022208
+            && ahead(sines::differ(back, nc), px * vc, ns, py * vs)
     }
-}
 
-// By k mod 4, for the sine s and the cosine c of |r|.
-fn on_turn(k: u64, down: bool, back: bool, py: u64, px: u64, s: u64, c: u64) -> bool
-    requires { (py ≤ 2147484168)
-        × (px ≤ 2147484168)
-        × (s ≤ 2147483648)
-        × (c ≤ 2147483648) }
-    ensures { result ≡ turn_test k down back py px s c }
-{
-    match k {
-        0 => on_line(back, py, px, down, s, false, c),
-        1 => on_line(back, py, px, false, c, !down, s),
-        2 => on_line(back, py, px, !down, s, true, c),
-        _ => on_line(back, py, px, true, c, down, s),
+    // By k mod 4, for the sine s and the cosine c of |r|.
+    fn on_turn(self, k: u64, down: bool, s: u64, c: u64) -> bool
+        requires { (s ≤ 2147483648)
+            × (c ≤ 2147483648) }
+        ensures { result ≡ turn_test k down self.back self.py self.px s c }
+    {
+        match k {
+            0 => self.on_line(down, s, false, c),
+            1 => self.on_line(false, c, !down, s),
+            2 => self.on_line(!down, s, true, c),
+            _ => self.on_line(true, c, down, s),
+        }
     }
-}
 
-// The angle x / 2^40.
-fn on_grid(back: bool, py: u64, px: u64, x: u64) -> bool
-    requires { (py ≤ 2147484168)
-        × (px ≤ 2147484168)
-        × (x ≤ 17592186044416) }
-    ensures { result ≡ grid_test back py px x }
-{
-    let q = sines::eighth(x);
-    let a = rest_of(q, x);
-    on_turn(
-        (q + 1) / 2 % 4,
-        q % 2 != 0,
-        back,
-        py,
-        px,
-        sin_fix(a),
-        cos_fix(a),
-    )
-}
-
-// Whether the angle c, not below zero, is certified for (x, y), |y| and |x| being py and px.
-fn certified(back: bool, py: u64, px: u64, c: f32) -> bool
-    requires { (py ≤ 2147484168)
-        × (px ≤ 2147484168)
-        × T (not (lt c plus_zero)) }
-    ensures { result ≡ cert_of back py px c }
-{
-    if c <= 3.1415927410125732421875 {
-        return on_grid(back, py, px, bits::fixed(c, 40));
+    // The angle x / 2^40.
+    fn on_grid(self, x: u64) -> bool
+        requires { x ≤ 17592186044416 }
+        ensures { result ≡ grid_test self.back self.py self.px x }
+    {
+        let q = sines::eighth(x);
+        let a = rest_of(q, x);
+        self.on_turn((q + 1) / 2 % 4, q % 2 != 0, sin_fix(a), cos_fix(a))
     }
-    false
+
+    // Whether the angle c, not below zero, is certified for it.
+    fn certifies(self, c: f32) -> bool
+        requires { T (not (lt c plus_zero)) }
+        ensures { result ≡ cert_of self.back self.py self.px c }
+    {
+        c <= 3.1415927410125732421875 && self.on_grid(bits::fixed(c, 40))
+    }
 }
 
 // The arctangent of (y, x), both finite, y not zero: the guess where it is certified, otherwise by halving.
@@ -379,35 +402,20 @@ fn arc_best(y: f32, x: f32) -> f32
     requires { T (usable y x) }
     ensures { result ≡ best_steps y x }
 {
-    let p = floats::abs(y);
-    let q = floats::abs(x);
-    let c = floats::abs(arc_guess(x < 0.0, p, q));
-    if p <= q {
-        if certified(x < 0.0, ratio_of(p, q), 2147483648, c) {
-            if y < 0.0 { -c } else { c }
-        } else {
-            arc(y, x)
-        }
+    let c = floats::abs(arc_guess(x < 0.0, floats::abs(y), floats::abs(x)));
+    if Direction::of(y, x).certifies(c) {
+        signed(y < 0.0, c)
     } else {
-        if certified(x < 0.0, 2147483648, ratio_of(q, p), c) {
-            if y < 0.0 { -c } else { c }
-        } else {
-            arc(y, x)
-        }
+        arc(y, x)
     }
 }
 
 // Whether x is below zero or -0.
+#[tactic(auto, unfolding(crate::specs::Arc::behind_of))]
 fn behind(x: f32) -> bool
     ensures { result ≡ behind_of x }
 {
-    if x < 0.0 {
-        true
-    } else if x == 0.0 {
-        1.0 / x < 0.0
-    } else {
-        false
-    }
+    x < 0.0 || (x == 0.0 && 1.0 / x < 0.0)
 }
 
 // The arctangent of (y, x), both finite.
@@ -430,77 +438,51 @@ fn atan_of(y: f32, x: f32) -> f32
     }
 }
 
+// A single angle call answers the value, or refuses the first argument that is not allowed.
+// One by one, as C calls them by name: each judges its own arguments, and takes no closure for its one step.
+#[tactic(auto, unfolding(crate::specs::Says::sine_says))]
+pub fn sine(x: f32) -> Result<f32, Refusal>
+    ensures { result ≡ sine_says x }
+{
+    allow(sines::in_range(x), Refusal::BadValue(0))?;
+    Ok(sines::sin_of(x))
+}
+
+#[tactic(auto, unfolding(crate::specs::Says::cosine_says))]
+pub fn cosine(x: f32) -> Result<f32, Refusal>
+    ensures { result ≡ cosine_says x }
+{
+    allow(sines::in_range(x), Refusal::BadValue(0))?;
+    Ok(sines::cos_of(x))
+}
+
+#[tactic(auto, unfolding(crate::specs::Says::arctan_says))]
+pub fn arctangent(y: f32, x: f32) -> Result<f32, Refusal>
+    ensures { result ≡ arctan_says y x }
+{
+    allow(floats::is_finite(y), Refusal::BadValue(0))?;
+    allow(floats::is_finite(x), Refusal::BadValue(1))?;
+    Ok(atan_of(y, x))
+}
+
+// The same with +0 in the place of a refusal.
+#[tactic(auto, unfolding(crate::specs::Says::sin_of, crate::specs::Says::sine_says))]
 pub fn sin(x: f32) -> f32
     ensures { result ≡ sin_of x }
 {
-    if sines::in_range(x) {
-        sines::sin_of(x)
-    } else {
-        0.0
-    }
+    sine(x).unwrap_or(0.0)
 }
 
+#[tactic(auto, unfolding(crate::specs::Says::cos_of, crate::specs::Says::cosine_says))]
 pub fn cos(x: f32) -> f32
     ensures { result ≡ cos_of x }
 {
-    if sines::in_range(x) {
-        sines::cos_of(x)
-    } else {
-        0.0
-    }
+    cosine(x).unwrap_or(0.0)
 }
 
+#[tactic(auto, unfolding(crate::specs::Says::atan2_of, crate::specs::Says::arctan_says))]
 pub fn atan2(y: f32, x: f32) -> f32
     ensures { result ≡ atan2_of y x }
 {
-    if floats::is_finite(y) {
-        if floats::is_finite(x) {
-            atan_of(y, x)
-        } else {
-            0.0
-        }
-    } else {
-        0.0
-    }
-}
-
-// What a single angle call answers: the value, or document 01's number 7 and the argument's place.
-#[derive(Clone, Copy)]
-pub enum AngleAnswer {
-    Value(f32),
-    Refused(u32, usize),
-}
-
-pub fn sine(x: f32) -> AngleAnswer
-    ensures { result ≡ sine_says x }
-{
-    if sines::in_range(x) {
-        AngleAnswer::Value(sines::sin_of(x))
-    } else {
-        AngleAnswer::Refused(7, 0)
-    }
-}
-
-pub fn cosine(x: f32) -> AngleAnswer
-    ensures { result ≡ cosine_says x }
-{
-    if sines::in_range(x) {
-        AngleAnswer::Value(sines::cos_of(x))
-    } else {
-        AngleAnswer::Refused(7, 0)
-    }
-}
-
-pub fn arctangent(y: f32, x: f32) -> AngleAnswer
-    ensures { result ≡ arctan_says y x }
-{
-    if floats::is_finite(y) {
-        if floats::is_finite(x) {
-            AngleAnswer::Value(atan_of(y, x))
-        } else {
-            AngleAnswer::Refused(7, 1)
-        }
-    } else {
-        AngleAnswer::Refused(7, 0)
-    }
+    arctangent(y, x).unwrap_or(0.0)
 }

@@ -10,14 +10,14 @@ use lib.Ieee.{Float}
 use Rattle.limits.specs.Refusals.{verdict_of, load_lines}
 use Rattle.limits.proofs.Passed.{Sized, load_passed}
 use Rattle.lookup.specs.declared.Lookup.{Lookup}
-use Rattle.loads.specs.declared.Loaded.TheVariants.{Ready}
+use Rattle.std.specs.Prelude.{Ok}
 use Rattle.loads.specs.Load.{Work, load_of, lengths_in}
 use Rattle.loads.proofs.Ways.{fine_by}
 use Rattle.settext.specs.declared.State.{State}
 use Rattle.answers.specs.Answers.{sizes_in, set_of}
 
 -- the sizes of a set that was loaded are allowed
-pub ready_sized : (s : State) (positions : List Float) (responses : ℕ) (d : Work) (look : Lookup) → (set_of s positions responses d).answer ≡ Ready look → Sized (sizes_in s)
+pub ready_sized : (s : State) (positions : List Float) (responses : ℕ) (d : Work) (look : Lookup) → (set_of s positions responses d).answer ≡ Ok look → Sized (sizes_in s)
 unfolding set_of load_of
 ready_sized s positions responses d look e =
     let xs = take (3 * s.m) positions in
@@ -31,7 +31,7 @@ few_taps m r n hm hr h =
     omega arith
 
 pub ready_few : (s : State) (positions : List Float) (responses : ℕ) (d : Work) (look : Lookup) → s.m * s.r * s.n ≤ 4096
-    → (set_of s positions responses d).answer ≡ Ready look → s.n ≤ 2048
+    → (set_of s positions responses d).answer ≡ Ok look → s.n ≤ 2048
 ready_few s positions responses d look h e =
     let z = ready_sized s positions responses d look e in
     few_taps s.m s.r s.n z.some z.ears h

@@ -8,8 +8,8 @@ use lib.Ieee.{Float}
 use Rattle.points.specs.declared.Point3.{Point3}
 use Rattle.limits.specs.declared.Sizes.{Sizes}
 use Rattle.limits.specs.declared.Lengths.{Lengths}
-use Rattle.limits.specs.declared.Verdict.{Verdict}
-use Rattle.limits.specs.declared.Verdict.TheVariants as verdict
+use Rattle.std.specs.Prelude.{⊤, Result, Ok, Err}
+use Rattle.refusals.specs.declared.Refusal.{Refusal}
 use Rattle.limits.specs.Allowed.{tree_fits, responses_fit, neighbours_fit, plain_fits, blend_fits}
 use Rattle.limits.specs.Refusals.{verdict_of, short_lists, find_lines, filter_lines}
 use Rattle.limits.proofs.Lines.{passed, goes_on}
@@ -39,7 +39,7 @@ unfolding blend_fits plain_fits
 fits s l h =
     and_left (tree_fits s l.tree) (responses_fit s l.responses) (and_left (plain_fits s l.tree l.responses) (neighbours_fit s l.neighbours) h)
 
-find_fine : (s : Sizes) (l : Lengths) (rate : Float) (q : Point3) → verdict_of (filter_lines s (blend_fits s l) rate q) ≡ verdict.Fine → verdict_of (find_lines s l.tree q) ≡ verdict.Fine
+find_fine : (s : Sizes) (l : Lengths) (rate : Float) (q : Point3) → verdict_of (filter_lines s (blend_fits s l) rate q) ≡ Ok tt → verdict_of (find_lines s l.tree q) ≡ Ok tt
 find_fine s l rate q e =
     let p2 = passed _ _ e in
     let p3 = passed _ _ p2.1 in
@@ -53,12 +53,12 @@ pub record Number (f : Located) : Type 0 where
 by_found : (f : Located) (ll rl : ℕ) (g : ℕ → FilterAnswer) → Answers (nearest_or f ll rl g).answer → Number f
 unfolding nearest_or
 by_found (At k) ll rl g a = record { number = k; found = refl }
-by_found (Refused n p) ll rl g a = absurd a
+by_found (Refused refusal) ll rl g a = absurd a
 
-by_verdict : (v w : Verdict) (f : Located) (ll rl : ℕ) (g : ℕ → FilterAnswer) → (v ≡ verdict.Fine → w ≡ verdict.Fine) → Answers (allowed v ll rl (nearest_or f ll rl g)).answer → Number (unless w f)
+by_verdict : (v w : Result ⊤ Refusal) (f : Located) (ll rl : ℕ) (g : ℕ → FilterAnswer) → (v ≡ Ok tt → w ≡ Ok tt) → Answers (allowed v ll rl (nearest_or f ll rl g)).answer → Number (unless w f)
 unfolding allowed unless
-by_verdict verdict.Fine w f ll rl g e a = rw (e refl) (by_found f ll rl g a)
-by_verdict (verdict.Refused n p) w f ll rl g e a = absurd a
+by_verdict (Ok fine) w f ll rl g e a = rw (e refl) (by_found f ll rl g a)
+by_verdict (Err refusal) w f ll rl g e a = absurd a
 
 pub found_where_answered : (s : State) (look : Lookup) (d : Work) (responses delays : List Float) (q : Point3) → Answers (filtered_of s look d responses delays q).answer → Number (nearest_number s look d q)
 unfolding filtered_of filter_says nearest_number find_of

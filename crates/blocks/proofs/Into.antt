@@ -5,7 +5,7 @@ use mathlib.Core.List.{List, [], ◌∷◌, ◌++◌, append_assoc, append-nil}
 use native.Mathlib.Numerals.{add-one}
 use native.Mathlib.Omega.{arith}
 use lib.ListN.{length, take, drop, set, get_or, length-append, length-drop, take-append-drop}
-use lib.Seq.{take_at, drop_at, drop-drop, length-take-le, set_at, drop-cons, drop-length, take_all, take-suc}
+use lib.Seq.{take_at, drop_at, drop-drop, length-take-le, set_at, drop-cons, drop-length, take_all}
 use Rattle.lists.specs.Over.{over, into}
 use Rattle.lists.proofs.Laws.{into_nil}
 use Rattle.blocks.specs.Put.{FitsAt, Wrote}
@@ -71,14 +71,6 @@ pub then : (at a b : ℕ) (xs ys d e f : List ℕ) → FitsAt at (xs ++ ys) d �
 then at a b xs ys d e f h (n, w) (m, v) =
     (m ∙ (let l = length-append xs ys in omega (arith, n, l)), v ∙ ap (λ (k : ℕ). into k ys e) n ∙ ap (into (at + length xs) ys) w ∙ onto at xs ys d h)
 
--- a part, and a byte behind it
-pub then_byte : (at a b : ℕ) (xs d e : List ℕ) → FitsAt at (xs ++ (b ∷ [])) d → Wrote at xs d a e → Wrote at (xs ++ (b ∷ [])) d (a + 1) (set e a b)
-then_byte at a b xs d e h (n, w) =
-    let l = length-append xs (b ∷ []) in
-    let room : FitsAt at xs d = omega (arith, h, l) in
-    let k : length e ≡ length d = ap length w ∙ length_into at xs d room in
-    then at a (a + 1) xs (b ∷ []) d e (set e a b) h (n, w) (refl, one a b e (omega (arith, h, l, k, n)))
-
 -- the room of a part is room for its beginning
 pub room_left : (at : ℕ) (xs ys d : List ℕ) → FitsAt at (xs ++ ys) d → FitsAt at xs d
 room_left at xs ys d h = let l = length-append xs ys in omega (arith, h, l)
@@ -98,18 +90,6 @@ tail at xs d e h w =
     let n : drop (length d - at) (drop at d) ≡ [] = ap (λ (k : ℕ). drop k (drop at d)) (sym l) ∙ drop-length (drop at d) in
     let f : take (length d - at) (drop at d) ≡ drop at d = take_all (length d - at) (drop at d) (omega (arith, l)) in
     ap (λ (v : List ℕ). take at d ++ (e ++ v)) n ∙ ap (λ (v : List ℕ). take at d ++ v) (append-nil e ∙ w ∙ ap (over xs) f)
-
--- a turn of a copy
-pub copied : (at i : ℕ) (s d e : List ℕ) (z : ℕ) → i < length s → FitsAt at s d → Wrote at (take i s) d (at + i) e → Wrote at (take (i + 1) s) d (at + (i + 1)) (set e (at + i) (get_or s i z))
-copied at i s d e z h r w =
-    let t : take (i + 1) s ≡ take i s ++ (get_or s i z ∷ []) = ap (λ (k : ℕ). take k s) (add-one i) ∙ take-suc s i z h in
-    let l : length (take (i + 1) s) ≡ i + 1 = length-take-le (i + 1) s (omega arith) in
-    let g : FitsAt at (take i s ++ (get_or s i z ∷ [])) d = omega (arith, r, sym (ap length t), l) in
-    let v = then_byte at (at + i) (get_or s i z) (take i s) d e g w in
-    (omega (arith, l), v.1 ∙ ap (λ (x : List ℕ). into at x d) (sym t))
-
-pub kept : (at : ℕ) (xs d : List ℕ) (r : ℕ) (e : List ℕ) → FitsAt at xs d → Wrote at xs d r e → length e ≡ length d
-kept at xs d r e h (n, w) = ap length w ∙ length_into at xs d h
 
 -- at the front
 pub front : (xs d : List ℕ) (r : ℕ) (e : List ℕ) → Wrote 0 xs d r e → (r ≡ length xs) × (e ≡ over xs d)

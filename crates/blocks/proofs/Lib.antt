@@ -1,3 +1,4 @@
 pub mod Into
+pub mod Writers
 pub mod Values
 pub mod Rooms

@@ -11,6 +11,7 @@ use Rattle.text.specs.Words.{bytes}
 use Rattle.delays.specs.declared.Seconds.{Seconds}
 use Rattle.delays.specs.declared.Outcome.{Outcome}
 use Rattle.delays.specs.declared.Outcome.TheVariants.{Exact, Blended, Refused}
+use Rattle.refusals.specs.Refusals.{number_of, place_of}
 use Rattle.lookup.specs.declared.Located.{Located}
 use Rattle.lookup.specs.declared.Located.TheVariants as located
 use Rattle.blocks.specs.Blocks.{newline, word_line, count_line, value_text, value_line, list_text, values_line, head_text, delays_text, filter_text, found_text, refused_text, block_of, form_error}
@@ -58,7 +59,7 @@ refused_room k p =
 
 found : (w : List ℕ) (f : Located) (p : ℕ) (l r : Seconds) (left right : List Float) → length (found_text w f p l r left right) ≤ length w + 9 * length left + 9 * length right + 103
 found w (located.At k) p l r left right = filter w k p l r left right
-found w (located.Refused reason place) p l r left right = omega (arith, refused_room reason place)
+found w (located.Refused refusal) p l r left right = omega (arith, refused_room (number_of refusal) (place_of refusal))
 
 -- 9 bytes for each value and 120 more
 pub block_room : (o : Outcome) (f : Located) (left right : List Float) → length (block_of o f left right) ≤ 9 * length left + 9 * length right + 120

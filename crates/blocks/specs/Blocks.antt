@@ -6,6 +6,7 @@ use Rattle.text.specs.Words.{bytes}
 use Rattle.delays.specs.declared.Seconds.{Seconds}
 use Rattle.delays.specs.declared.Outcome.{Outcome}
 use Rattle.delays.specs.declared.Outcome.TheVariants.{Exact, Blended, Refused}
+use Rattle.refusals.specs.Refusals.{number_of, place_of}
 use Rattle.lookup.specs.declared.Located.{Located}
 use Rattle.lookup.specs.declared.Located.TheVariants as located
 
@@ -59,7 +60,7 @@ refused_text reason place = word_line (bytes "answer=refused") ++ count_line (by
 -- (crate `answers`, `found_where_answered`)
 abbrev pub found_text : List ℕ → Located → ℕ → Seconds → Seconds → List Float → List Float → List ℕ
 found_text answer (located.At number) points l r left right = filter_text answer number points l r left right
-found_text answer (located.Refused reason place) points l r left right = refused_text reason place
+found_text answer (located.Refused refusal) points l r left right = refused_text (number_of refusal) (place_of refusal)
 
 -- the block of a query: the filter's outcome, what the find answered, and both responses
 abbrev pub block_of : Outcome → Located → List Float → List Float → List ℕ

@@ -1,2 +1,2 @@
-pub mod Choices
+pub mod Listed
 pub mod Step

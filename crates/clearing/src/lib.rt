@@ -11,16 +11,16 @@
 #![tactic(auto)]
 
 ghost use Rattle.std.specs.Prelude.{◌≡◌, cond, ℕ, ◌-◌, ◌*◌, ◌<◌, ◌≤◌, ltb, length};
-ghost use Rattle.kdtree.specs.Tree.{TreeHolds, subtree};
+ghost use Rattle.kdtree.specs.Tree.{subtree};
 ghost use Rattle.points.specs.Points.{point_at, dist_sq_of};
-ghost use Rattle.clearing.specs.Clearing.{strictly_between, holds, far_axis, drawn_in, held_in, met, reaches, cleared, none, clearing_of, reach_after, nearer_than_faces, alone_in, nearer, listed_count, nearest_within};
+ghost use Rattle.clearing.specs.Clearing.{strictly_between, holds, far_axis, drawn_in, held_in, met, reaches, cleared, none, clearing_of, reach_after, nearer_than_faces, alone_in, nearer, nearest_within};
 
-use kdtree::{BoundingBox, Link};
+use kdtree::{BoundingBox, Link, Tree};
 use points::Point3;
 
 const MOST: usize = 24;
 
-// An open box, and the first `count` of `places`.
+// An open box, and the first `count` of `places`: an array with its count beside it, since there is no heap for a list that grows.
 #[derive(Clone, Copy)]
 pub struct Clearing {
     pub faces: BoundingBox,
@@ -35,12 +35,14 @@ struct Kept {
     count: usize,
 }
 
+// Strictly, where the tests of crate `limits` take the ends too.
 fn is_between(lo: f32, hi: f32, x: f32) -> bool
     ensures { result ≡ strictly_between lo hi x }
 {
     (lo < x) & (x < hi)
 }
 
+#[tactic(auto, unfolding(crate::specs::Clearing::holds))]
 fn has_inside(b: BoundingBox, x: Point3) -> bool
     ensures { result ≡ holds b x }
 {
@@ -49,6 +51,8 @@ fn has_inside(b: BoundingBox, x: Point3) -> bool
 }
 
 // The axis on which x is farthest from p: a face there costs the box least.
+// An axis is a number, as crate `kdtree` has it.
+#[tactic(auto, unfolding(crate::specs::Clearing::far_axis))]
 fn far_axis(p: Point3, x: Point3) -> u8
     ensures { result ≡ far_axis p x }
 {
@@ -65,41 +69,41 @@ fn far_axis(p: Point3, x: Point3) -> u8
 }
 
 // The face on that side of p goes to x.
+#[tactic(auto, unfolding(crate::specs::Clearing::drawn_in))]
 fn drawn_in(b: BoundingBox, p: Point3, x: Point3) -> BoundingBox
     ensures { result ≡ drawn_in b p x }
 {
     let axis = far_axis(p, x);
     let v = kdtree::coord(x, axis);
-    if v < kdtree::coord(p, axis) {
-        b.with_min(axis, v)
-    } else {
-        b.with_max(axis, v)
-    }
+    let below = v < kdtree::coord(p, axis);
+    b.side(axis, v, !below)
 }
 
 // A point other than its own that the box holds is listed, or where there is no room is put out of the box.
+#[tactic(auto, unfolding(crate::specs::Clearing::met, crate::specs::Clearing::listed, crate::specs::Clearing::faced))]
 fn meet(own: usize, p: Point3, n: usize, x: Point3, places: &mut [u16; 24], kept: Kept) -> Kept
     requires { n < 16384 }
     ensures { held_in result places.new ≡ met own p n x (held_in kept places.old) }
 {
-    let faces = kept.faces;
-    let count = kept.count;
-    if (n == own) | !has_inside(faces, x) {
+    if (n == own) | !has_inside(kept.faces, x) {
         return kept;
     }
-    if count < MOST {
-        let more = count + 1;
-        places[count] = n as u16;
-        return Kept { faces, count: more };
-    }
-    let drawn = drawn_in(faces, p, x);
-    Kept {
-        faces: drawn,
-        count,
+    if kept.count < MOST {
+        places[kept.count] = n as u16;
+        Kept {
+            count: kept.count + 1,
+            ..kept
+        }
+    } else {
+        Kept {
+            faces: drawn_in(kept.faces, p, x),
+            ..kept
+        }
     }
 }
 
 // The box reaches past a node's coordinate, p being on its left or not.
+#[tactic(auto, unfolding(crate::specs::Clearing::reaches))]
 fn goes_past(on_left: bool, b: BoundingBox, axis: u8, v: f32) -> bool
     ensures { result ≡ reaches on_left b axis v }
 {
@@ -112,77 +116,67 @@ fn goes_past(on_left: bool, b: BoundingBox, axis: u8, v: f32) -> bool
 
 // Node, the side that p is on, and the other side if the box reaches there. Over links that were built each node is met once.
 fn clear_rec(
-    xs: &&[f32],
-    left: &&[u16],
-    right: &&[u16],
-    m: usize,
+    tree: &Tree,
     own: usize,
     places: &mut [u16; 24],
     node: usize,
     axis: u8,
     kept: Kept,
 ) -> Kept
-    requires { (node < m)
-        × TreeHolds m xs.now.now left.now.now right.now.now
-        × (own < m) }
-    ensures { (f : ℕ) → m - node ≤ f
+    requires { (node < tree.now.count) × (own < tree.now.count) }
+    ensures { (f : ℕ) → tree.now.count - node ≤ f
         → held_in result places.new
-        ≡ cleared own (point_at xs.now.now own) (subtree left.now.now right.now.now xs.now.now m f node) axis
+        ≡ cleared own (point_at tree.now.positions.now own)
+        (subtree tree.now.left.now tree.now.right.now tree.now.positions.now tree.now.count f node) axis
         (held_in kept places.old) }
 {
-    let p = points::point_at(*xs, own);
-    let x = points::point_at(*xs, node);
+    let p = points::point_at(tree.positions, own);
+    let x = points::point_at(tree.positions, node);
     let v = kdtree::coord(x, axis);
     let on_left = kdtree::coord(p, axis) < v;
     let next = kdtree::next_axis(axis);
-    let l = left[node];
-    let r = right[node];
+    let l = tree.left[node];
+    let r = tree.right[node];
     let here = meet(own, p, node, x, places, kept);
-    let near = match kdtree::link_of(m, node, kdtree::either(on_left, l, r)) {
-        Link::To(n) => clear_rec(xs, left, right, m, own, places, n, next, here),
+    let near = match kdtree::link_of(tree.count, node, kdtree::choose(on_left, l, r)) {
+        Link::To(n) => clear_rec(tree, own, places, n, next, here),
         _ => here,
     };
-    if goes_past(on_left, near.faces, axis, v) {
-        match kdtree::link_of(m, node, kdtree::either(on_left, r, l)) {
-            Link::To(n) => return clear_rec(xs, left, right, m, own, places, n, next, near),
-            _ => return near,
-        }
+    if !goes_past(on_left, near.faces, axis, v) {
+        return near;
     }
-    near
+    match kdtree::link_of(tree.count, node, kdtree::choose(on_left, r, l)) {
+        Link::To(n) => clear_rec(tree, own, places, n, next, near),
+        _ => near,
+    }
 }
 
 // p alone.
+#[tactic(auto, unfolding(crate::specs::Clearing::none))]
 fn none(p: Point3) -> Clearing
     ensures { result ≡ none p }
 {
-    let faces = BoundingBox::new(p);
     Clearing {
-        faces,
+        faces: BoundingBox::new(p),
         count: 0,
         places: [0; 24],
     }
 }
 
-// The clearing around the measurement at the place `own`, among m, no wider than `reach` to each side. Where the first step leads out of
-// that, nothing is looked for.
-pub fn clear(
-    m: usize,
-    xs: &[f32],
-    left: &[u16],
-    right: &[u16],
-    own: usize,
-    reach: f32,
-    step: f32,
-) -> Clearing
-    requires { (own < m)
-        × TreeHolds m xs.now left.now right.now }
-    ensures { result ≡ clearing_of own (point_at xs.now own) (subtree left.now right.now xs.now m m 0) reach step }
+// The clearing around the measurement at the place `own`, no wider than `reach` to each side. Where the first step leads out of that,
+// nothing is looked for.
+#[tactic(auto, unfolding(crate::specs::Clearing::around, crate::specs::Clearing::clearing_of))]
+pub fn clear(tree: &Tree, own: usize, reach: f32, step: f32) -> Clearing
+    requires { own < tree.now.count }
+    ensures { result
+        ≡ clearing_of own (point_at tree.now.positions.now own)
+        (subtree tree.now.left.now tree.now.right.now tree.now.positions.now tree.now.count tree.now.count 0) reach step }
 {
-    let p = points::point_at(xs, own);
+    let p = points::point_at(tree.positions, own);
     if reach < step {
         return none(p);
     }
-    let wide = BoundingBox {
+    let faces = BoundingBox {
         min_x: p.x - reach,
         min_y: p.y - reach,
         min_z: p.z - reach,
@@ -190,21 +184,17 @@ pub fn clear(
         max_y: p.y + reach,
         max_z: p.z + reach,
     };
-    let start = Kept {
-        faces: wide,
-        count: 0,
-    };
     let mut places = [0; 24];
-    let kept = clear_rec(&xs, &left, &right, m, own, &mut places, 0, 0, start);
-    let faces = kept.faces;
+    let Kept { faces, count } = clear_rec(tree, own, &mut places, 0, 0, Kept { faces, count: 0 });
     Clearing {
         faces,
-        count: kept.count,
+        count,
         places,
     }
 }
 
 // How far to look from the next measurement: it changes only how often a search is made, not what is found.
+#[tactic(auto, unfolding(crate::specs::Clearing::reach_after))]
 pub fn reach_after(reach: f32, step: f32, count: usize) -> f32
     ensures { result ≡ reach_after reach step count }
 {
@@ -218,6 +208,7 @@ pub fn reach_after(reach: f32, step: f32, count: usize) -> f32
     }
 }
 
+#[tactic(auto, unfolding(crate::specs::Clearing::nearer_than_faces))]
 fn within_faces(d: f32, lo: f32, hi: f32, q: f32) -> bool
     ensures { result ≡ nearer_than_faces d lo hi q }
 {
@@ -227,6 +218,7 @@ fn within_faces(d: f32, lo: f32, hi: f32, q: f32) -> bool
 }
 
 // p is nearer to q than every face of the clearing is, and than the root if that is another.
+#[tactic(auto, unfolding(crate::specs::Clearing::alone_in))]
 pub fn alone(b: BoundingBox, own: usize, p: Point3, root: Point3, q: Point3) -> bool
     ensures { result ≡ alone_in b own p root q }
 {
@@ -236,7 +228,7 @@ pub fn alone(b: BoundingBox, own: usize, p: Point3, root: Point3, q: Point3) -> 
             & (within_faces(d, b.min_y, b.max_y, q.y) & within_faces(d, b.min_z, b.max_z, q.z)))
 }
 
-// The nearest of those in a clearing, and whether another is as near.
+// The nearest of those in a clearing, and whether another is as near: place and distance hold either way, so `tied` is no `Option` of them.
 #[derive(Clone, Copy)]
 pub struct Nearest {
     pub place: usize,
@@ -244,6 +236,7 @@ pub struct Nearest {
     pub tied: bool,
 }
 
+#[tactic(auto, unfolding(crate::specs::Clearing::nearer))]
 fn nearer(s: Nearest, n: usize, d: f32) -> Nearest
     ensures { result ≡ nearer s n d }
 {
@@ -254,11 +247,7 @@ fn nearer(s: Nearest, n: usize, d: f32) -> Nearest
             tied: false,
         }
     } else if d <= s.dist {
-        Nearest {
-            place: s.place,
-            dist: s.dist,
-            tied: true,
-        }
+        Nearest { tied: true, ..s }
     } else {
         s
     }
@@ -276,31 +265,20 @@ fn beside(xs: &[f32], m: usize, q: Point3, s: Nearest, n: usize) -> Nearest
     }
 }
 
-// How many are listed, of any clearing.
-fn listed_count(c: Clearing) -> usize
-    ensures { result ≡ listed_count c }
-{
-    if c.count < MOST { c.count } else { MOST }
-}
-
-// Its own, and all that are listed.
+// Its own, and all that are listed. It reads no link, so it asks for the positions and not for a tree.
 pub fn nearest_in(m: usize, xs: &[f32], own: usize, c: Clearing, q: Point3) -> Nearest
     requires { (own < m)
         × (3 * m ≤ length xs.now)
         × (m ≤ 16384) }
     ensures { result ≡ nearest_within xs.now m q own c }
 {
-    let p = points::point_at(xs, own);
     let mut s = Nearest {
         place: own,
-        dist: points::dist_sq(p, q),
+        dist: points::dist_sq(points::point_at(xs, own), q),
         tied: false,
     };
-    let end = listed_count(c);
-    let mut i = 0;
-    while i < end {
-        s = beside(xs, m, q, s, c.places[i] as usize);
-        i += 1;
+    for n in &c.places[..c.count.min(MOST)] {
+        s = beside(xs, m, q, s, usize::from(*n));
     }
     s
 }

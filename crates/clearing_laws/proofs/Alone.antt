@@ -7,14 +7,14 @@ use Prim.Native.Nat.{ℕ, suc, ◌+◌, ◌<◌}
 use native.Mathlib.Omega.{arith}
 use lib.Dec.{T}
 use lib.Ieee.{Float, lt}
+use Rattle.std.specs.Prelude.{None, Option, Some}
+use Rattle.kdtree.specs.declared.Best.{Best}
 use Rattle.lists.specs.Over.{over}
 use Rattle.lists.specs.Each.{Each}
 use Rattle.floats.proofs.Preorder.{number, lt_numbers}
 use Rattle.floats.proofs.Cross.{of_taken}
 use Rattle.points.specs.declared.Point3.{Point3}
 use Rattle.points.specs.Points.{point_at, dist_sq_of}
-use Rattle.kdtree.specs.declared.Searched.{Searched}
-use Rattle.kdtree.specs.declared.Searched.TheVariants.{Found, Stopped}
 use Rattle.kdtree.specs.Tree.{Tree, subtree}
 use Rattle.kdtree.specs.Search as pruned
 use Rattle.kdtree.specs.Nearest.{start_at, start_at_root, found_from, place_found}
@@ -159,6 +159,6 @@ module _ (xs : List Float) (k : ℕ) (d : Links) (room : Room xs (suc k) d) (own
         unfolding located_by pick_of
         alone_found = go (place_found xs left right m (box_of xs m) q) agrees
           where
-            go : (v : Searched) → Agrees found (0 + size t) v → located_by v ≡ At s.place
-            go (Found r) a = ap At (ap (λ (z : Pick). z.place) a.0 ∙ place_is)
-            go Stopped a = absurd a
+            go : (v : Option Best) → Agrees found (0 + size t) v → located_by v ≡ At s.place
+            go (Some r) a = ap At (ap (λ (z : Pick). z.place) a.0 ∙ place_is)
+            go None a = absurd a

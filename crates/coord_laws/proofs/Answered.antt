@@ -19,7 +19,9 @@ use Rattle.points.specs.Points.{point_at}
 use Rattle.root.specs.Root.{root_of}
 use Rattle.root.proofs.Laws.{root_of_positive}
 use Rattle.sines.specs.Sines.{plus_zero, sixteen, in_range, sine_steps, cosine_steps}
-use Rattle.angles.specs.declared.AngleAnswer.TheVariants.{Value, Refused}
+use Rattle.std.specs.Prelude.{Result, Ok, Err}
+use Rattle.refusals.specs.declared.Refusal.{Refusal}
+use Rattle.refusals.specs.declared.Refusal.TheVariants.{BadValue}
 use Rattle.angles.specs.Arc.{arctan_steps}
 use Rattle.angles.specs.Says.{sin_of, cos_of, atan2_of, sine_says, cosine_says, arctan_says}
 use Rattle.angle_laws.specs.Angle.{S, C, close_to}
@@ -68,15 +70,15 @@ turn_answered d h =
     let cos_is = first (in_range (radians d)) (cosine_steps (radians d)) plus_zero r in
     record {
       within_range = r;
-      sine_said = unfold sine_says turn_of sin_of in rw (sin_is) (first (in_range (radians d)) (Value (sine_steps (radians d))) (Refused 7 0) r);
-      cosine_said = unfold cosine_says turn_of cos_of in rw (cos_is) (first (in_range (radians d)) (Value (cosine_steps (radians d))) (Refused 7 0) r);
+      sine_said = unfold sine_says turn_of sin_of in rw (sin_is) (first (in_range (radians d)) (Ok (sine_steps (radians d))) (Err (BadValue 0)) r);
+      cosine_said = unfold cosine_says turn_of cos_of in rw (cos_is) (first (in_range (radians d)) (Ok (cosine_steps (radians d))) (Err (BadValue 0)) r);
       near_sine = unfold turn_of sin_of in subst (λ (v : Float). close_to 1048576 v (S (radians d))) (sym sin_is) (sine_near (radians d) w r);
       near_cosine = unfold turn_of cos_of in subst (λ (v : Float). close_to 1048576 v (C (radians d))) (sym cos_is) (cosine_near (radians d) w r);
     }
 
 -- ---- the arctangent
 
-says_value : (a b : Bool) (v : Float) → T (a && b) → cond a (cond b (Value v) (Refused 7 1)) (Refused 7 0) ≡ Value v
+says_value : (a b : Bool) (v : Float) → T (a && b) → ◌≡◌ {A = Result Float Refusal} (cond a (cond b (Ok v) (Err (BadValue 1))) (Err (BadValue 0))) (Ok v)
 says_value true true v t = refl
 says_value true false v t = absurd t
 says_value false b v t = absurd t

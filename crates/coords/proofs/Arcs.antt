@@ -9,7 +9,6 @@ use lib.Ieee.{Float, nan, inf, fin, binary32, up, down, round, neg, sum, add, mu
 use lib.Ieee.Bits.{is_true}
 use lib.Ieee.Fits.{down_pos}
 use lib.Ieee.Order.{round_mono}
-use lib.Ieee.Scale.{finite}
 use Rattle.floats.specs.Floats.{zero32, abs_of}
 use Rattle.floats.proofs.Cross.{cross→le, nonneg_cross}
 use Rattle.floats.proofs.Preorder.{lt_le_trans, le_lt_trans}

@@ -1,85 +1,40 @@
 -- The loop that changes a list three values at a time, for any change of a triplet: what is changed so far, followed by what is left to change,
--- is the whole. Assumes nothing.
-use Prim.Native.Nat.{ℕ, suc, ◌+◌, ◌*◌, ◌/◌, ◌^◌, ◌≤◌, ◌<◌}
-use mathlib.Core.Path.{◌≡◌, refl, ◌∙◌}
-use mathlib.Core.List.{List, [], ◌∷◌, ◌++◌, append_assoc}
-use native.Mathlib.Omega.{arith}
-use lib.ListN.{length, take, drop, get_or, set, length-append, length-drop, take-append-drop, length-set}
-use lib.Seq.{drop-cons, length-take-le, sets-eq, take_at, drop_at}
+-- is the whole; and what a checked conversion says. Assumes nothing.
+use Rattle.std.proofs.Common.{◌≡◌, ℕ, ◌+◌, ◌*◌, ◌/◌, ◌≤◌, ◌<◌, List, [], ◌∷◌, ◌++◌, length, take, drop, get_or, Ok, Err, refl, arith, append_assoc, length-drop, take-append-drop}
+use Rattle.std.proofs.lemmas.List.{drop_more}
+use Rattle.std.proofs.lemmas.Slice.{take-put_mid, drop-put_mid}
+use borrow.Rule.Slice.PartMut.{put_mid}
 use lib.Ieee.{Float, nan}
-use mir.Syntax.{w64}
-use mir.Val.{Fits}
 use Rattle.points.specs.declared.Point3.{Point3}
-use Rattle.points.specs.Points.{point_at}
-use Rattle.limits.specs.declared.Verdict.{Verdict}
-use Rattle.limits.specs.declared.Verdict.TheVariants.{Fine, Refused}
+use Rattle.points.specs.Points.{point_at, listed}
+use Rattle.refusals.specs.declared.Refusal.{Refusal}
 use Rattle.limits.specs.Refusals.{verdict_of, value_lines}
 use Rattle.coords.specs.Arrays.{turned, by_triplets, converted_as, kept_or, convert_of}
 
--- ---- the loop's places: one below a third of the count has its three values there, and what is counted fits a usize
-pub three_there : (place len : ℕ) → place < len / 3 → 3 * place + 2 < len
-three_there place len h = omega arith
+-- the values of the triplet at i, and the list from there on
+abbrev pub triplet_at : List Float → ℕ → List Float
+triplet_at xs i = get_or xs i nan ∷ get_or xs (i + 1) nan ∷ get_or xs (i + 2) nan ∷ []
 
-pub first_there : (i len : ℕ) → i + 2 < len → i < len
-first_there i len h = omega arith
-
-pub second_there : (i len : ℕ) → i + 2 < len → i + 1 < len
-second_there i len h = omega arith
-
-pub as_long : (i len₀ len : ℕ) → i < len₀ → len ≡ len₀ → i < len
-as_long i len₀ len h e = omega arith
-
-pub next_fits : (place len : ℕ) → place < len / 3 → len < 2 ^ 64 → Fits w64 (place + 1)
-next_fits place len h g = record { fits = omega arith }
-
-pub at_end : (place len₀ len : ℕ) → len₀ / 3 ≤ place → len ≡ len₀ → len < 3 * place + 3
-at_end place len₀ len h e = omega arith
-
--- a store keeps the count
-pub in_set : (k : ℕ) (xs : List Float) (i : ℕ) (v : Float) → k < length xs → k < length (set xs i v)
-in_set k xs i v h = rw (length-set xs i v) h
-
-pub length_sets : (xs : List Float) (i j k : ℕ) (x y z : Float) → length (set (set (set xs i x) j y) k z) ≡ length xs
-length_sets xs i j k x y z = simp length-set
-
--- the values of a triplet
-abbrev pub values_of : Point3 → List Float
-values_of t = t.x ∷ t.y ∷ t.z ∷ []
-
--- a triplet and what follows it
-three : (xs : List Float) (i : ℕ) → i + 2 < length xs → drop i xs ≡ get_or xs i nan ∷ get_or xs (i + 1) nan ∷ get_or xs (i + 2) nan ∷ drop (i + 3) xs
+three : (xs : List Float) (i : ℕ) → i + 2 < length xs → drop i xs ≡ triplet_at xs i ++ drop (i + 3) xs
 three xs i h =
-    let e1 : suc i ≡ i + 1 = omega arith in
-    let e2 : suc (i + 1) ≡ i + 2 = omega arith in
-    let e3 : suc (i + 2) ≡ i + 3 = omega arith in
-    rw (drop-cons xs i nan (omega arith), e1, drop-cons xs (i + 1) nan (omega arith), e2, drop-cons xs (i + 2) nan h, e3)
-
--- three stores in a row
-stored : (xs : List Float) (i : ℕ) (t : Point3) → i + 2 < length xs → set (set (set xs i t.x) (i + 1) t.y) (i + 2) t.z ≡ take i xs ++ values_of t ++ drop (i + 3) xs
-stored xs i t h =
-    let e1 : i + 1 ≡ suc i = omega arith in
-    let e2 : i + 2 ≡ suc (suc i) = omega arith in
-    rw (e1, e2) (sets-eq (values_of t) xs i (omega arith))
+    let e2 : i + 1 + 1 ≡ i + 2 = omega arith in
+    let e3 : i + 2 + 1 ≡ i + 3 = omega arith in
+    rw (drop_more xs i nan (omega arith), drop_more xs (i + 1) nan (omega arith), e2, drop_more xs (i + 2) nan h, e3)
 
 module _ (f : Point3 → Point3) where
-  by_three : (a b c : Float) (rest : List Float) (t : Point3) → t ≡ f (record { x = a; y = b; z = c }) → by_triplets f (a ∷ b ∷ c ∷ rest) ≡ values_of t ++ by_triplets f rest
-  unfolding by_triplets
-  by_three a b c rest t e = rw e
+  by_three : (a b c : Float) (rest ys : List Float) → ys ≡ listed (f (point_at (a ∷ b ∷ c ∷ []) 0)) → by_triplets f (a ∷ b ∷ c ∷ rest) ≡ ys ++ by_triplets f rest
+  unfolding by_triplets point_at
+  by_three a b c rest ys e = rw e
 
-  -- one turn of the loop
-  pub turn : (xs : List Float) (place : ℕ) → 3 * place + 2 < length xs → (t : Point3) → t ≡ f (point_at xs place)
-      → (ys : List Float) → ys ≡ set (set (set xs (3 * place) t.x) (3 * place + 1) t.y) (3 * place + 2) t.z
-      → take (3 * (place + 1)) ys ++ by_triplets f (drop (3 * (place + 1)) ys) ≡ take (3 * place) xs ++ by_triplets f (drop (3 * place) xs)
-  unfolding point_at
-  turn xs place h t e ys s =
+  -- one turn of the loop: the part at i, of n values, now holds ys
+  pub turn : (xs : List Float) (place : ℕ) → 3 * place + 2 < length xs → (n : ℕ) → n ≡ 3 → (ys : List Float) → ys ≡ listed (f (point_at (triplet_at xs (3 * place)) 0))
+      → take (3 * (place + 1)) (put_mid (3 * place) n xs ys) ++ by_triplets f (drop (3 * (place + 1)) (put_mid (3 * place) n xs ys)) ≡ take (3 * place) xs ++ by_triplets f (drop (3 * place) xs)
+  turn xs place h n n3 ys e =
       let i = 3 * place in
       let next : 3 * (place + 1) ≡ i + 3 = omega arith in
-      let p = take i xs ++ values_of t in
-      let rest = drop (i + 3) xs in
-      let len : length p ≡ i + 3 = simp length-append (omega (arith, length-take-le i xs (omega arith))) in
-      let whole : ys ≡ p ++ rest = s ∙ stored xs i t h in
-      rw (next, whole, take_at p rest (i + 3) len, drop_at p rest (i + 3) len, three xs i h, by_three _ _ _ rest t e)
-      (append_assoc (take i xs) (values_of t) (by_triplets f rest))
+      let len : length ys ≡ 3 = rw e in
+      rw (next, take-put_mid i n xs ys (i + 3) (omega arith) (omega arith), drop-put_mid i n xs ys (i + 3) (omega arith) (omega arith) (omega arith), three xs i h, by_three _ _ _ (drop (i + 3) xs) ys e)
+      (append_assoc (take i xs) ys (by_triplets f (drop (i + 3) xs)))
 
   short : (xs : List Float) → length xs < 3 → by_triplets f xs ≡ xs
   unfolding by_triplets
@@ -89,18 +44,19 @@ module _ (f : Point3 → Point3) where
   short (a ∷ b ∷ c ∷ rest) h = absurd (omega arith)
 
   -- at the end one or two values are left over, or none
-  pub done : (xs : List Float) (i : ℕ) → length xs < i + 3 → take i xs ++ by_triplets f (drop i xs) ≡ xs
-  done xs i h =
+  pub done : (xs : List Float) (place : ℕ) → length xs / 3 ≤ place → take (3 * place) xs ++ by_triplets f (drop (3 * place) xs) ≡ xs
+  done xs place h =
+      let i = 3 * place in
       let left : length (drop i xs) < 3 = simp length-drop (omega arith) in
       rw (short (drop i xs) left) (take-append-drop i xs)
 
--- ---- what a checked conversion says, from its verdict v
+-- ---- what a checked conversion says
 
-module _ (kind : ℕ) (xs : List Float) (v : Verdict) (judged : v ≡ verdict_of (value_lines kind xs)) where
-  pub stays : (n p : ℕ) → v ≡ Refused n p → converted_as v xs ≡ convert_of kind xs
+module _ (kind : ℕ) (xs : List Float) where
+  pub stays : (r : Refusal) → verdict_of (value_lines kind xs) ≡ Err r → converted_as (Err r) xs ≡ convert_of kind xs
   unfolding convert_of kept_or
-  stays n p r = rw (← judged, r)
+  stays r e = rw e
 
-  pub changes : (ys : List Float) → v ≡ Fine → ys ≡ by_triplets (turned kind) xs → converted_as v ys ≡ convert_of kind xs
+  pub changes : verdict_of (value_lines kind xs) ≡ Ok tt → converted_as (Ok tt) (by_triplets (turned kind) xs) ≡ convert_of kind xs
   unfolding convert_of kept_or
-  changes ys fine e = rw (← judged, fine, e)
+  changes e = rw e

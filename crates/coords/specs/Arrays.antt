@@ -1,8 +1,7 @@
 -- A lent list converted in place, three values at a time. Definitions only.
-use Rattle.std.specs.Prelude.{ℕ, cond, List, [], ◌∷◌, eqb, Float}
+use Rattle.std.specs.Prelude.{ℕ, cond, List, [], ◌∷◌, eqb, Float, ⊤, Result, Ok, Err}
 use Rattle.points.specs.declared.Point3.{Point3}
-use Rattle.limits.specs.declared.Verdict.{Verdict}
-use Rattle.limits.specs.declared.Verdict.TheVariants.{Fine, Refused}
+use Rattle.refusals.specs.declared.Refusal.{Refusal}
 use Rattle.limits.specs.Refusals.{verdict_of, value_lines}
 use Rattle.coords.specs.declared.Spherical.{Spherical}
 use Rattle.coords.specs.Coords.{cartesian_of, spherical_of}
@@ -27,16 +26,16 @@ by_triplets f (a ∷ b ∷ c ∷ rest) = let t = f (record { x = a; y = b; z = c
 
 -- what a conversion answers, and what its list then holds
 pub record Converted : Type 0 where
-  pub answer : Verdict
+  pub answer : Result ⊤ Refusal
   pub values : List Float
 
-abbrev pub converted_as : Verdict → List Float → Converted
+abbrev pub converted_as : Result ⊤ Refusal → List Float → Converted
 converted_as v xs = record { answer = v; values = xs }
 
 -- refused, the list stays
-unfoldable pub kept_or : Verdict → List Float → List Float → List Float
-kept_or Fine old new = new
-kept_or (Refused number place) old new = old
+unfoldable pub kept_or : Result ⊤ Refusal → List Float → List Float → List Float
+kept_or (Ok done) old new = new
+kept_or (Err refusal) old new = old
 
 -- a list of triplets of the kind, each value checked by 4 first
 unfoldable pub convert_of : ℕ → List Float → Converted

@@ -15,18 +15,43 @@ ghost use Rattle.std.specs.Prelude.{◌≡◌, true};
 ghost use Rattle.std.specs.Float.{binary32};
 ghost use Rattle.std.specs.Float.Ieee.{rem, lt};
 ghost use Rattle.floats.specs.Floats.{zero32};
+ghost use Rattle.points.specs.Points.{point_at, listed};
 ghost use Rattle.coords.specs.Coords.{full32, two_turns, turn_of, along_of, cartesian_of, radius_of, spherical_of};
-ghost use Rattle.coords.specs.Arrays.{turned, by_triplets, converted_as, convert_of};
+ghost use Rattle.coords.specs.Arrays.{laid, lifted, turned, by_triplets, converted_as, convert_of};
 
-use limits::Verdict;
 use points::Point3;
+use refusals::Refusal;
 
 // Azimuth and elevation in degrees.
+// No `Point3`, though it is three floats too: neither passes for the other.
 #[derive(Clone, Copy)]
 pub struct Spherical {
     pub azimuth: f32,
     pub elevation: f32,
     pub radius: f32,
+}
+
+// How a list holds it: azimuth, elevation, radius.
+impl From<[f32; 3]> for Spherical {
+    ghost from_gives = { λ xs s. s ≡ lifted (point_at xs 0) };
+
+    #[tactic(auto, unfolding(points::specs::Points::point_at))]
+    fn from(values: [f32; 3]) -> Spherical {
+        let [azimuth, elevation, radius] = values;
+        Spherical {
+            azimuth,
+            elevation,
+            radius,
+        }
+    }
+}
+
+impl From<Spherical> for [f32; 3] {
+    ghost from_gives = { λ s xs. xs ≡ listed (laid s) };
+
+    fn from(s: Spherical) -> [f32; 3] {
+        [s.azimuth, s.elevation, s.radius]
+    }
 }
 
 // The sine and cosine of an angle.
@@ -36,6 +61,7 @@ pub struct Turn {
     pub cos: f32,
 }
 
+#[tactic(auto, unfolding(crate::specs::Coords::turn_of))]
 pub fn turn_of(degrees: f32) -> Turn
     ensures { result ≡ turn_of degrees }
 {
@@ -47,6 +73,7 @@ pub fn turn_of(degrees: f32) -> Turn
 }
 
 // The point at a radius, by its azimuth and elevation.
+#[tactic(auto, unfolding(crate::specs::Coords::along_of))]
 pub fn along(phi: Turn, theta: Turn, radius: f32) -> Point3
     ensures { result ≡ along_of phi theta radius }
 {
@@ -58,6 +85,8 @@ pub fn along(phi: Turn, theta: Turn, radius: f32) -> Point3
     }
 }
 
+// This and its way back round, so they are functions and no `From`.
+#[tactic(auto, unfolding(crate::specs::Coords::cartesian_of))]
 pub fn spherical_to_cartesian(s: Spherical) -> Point3
     ensures { result ≡ cartesian_of s }
 {
@@ -65,6 +94,7 @@ pub fn spherical_to_cartesian(s: Spherical) -> Point3
 }
 
 // The distance from the origin.
+#[tactic(auto, unfolding(crate::specs::Coords::radius_of))]
 pub fn radius(p: Point3) -> f32
     ensures { result ≡ radius_of p }
 {
@@ -92,63 +122,46 @@ pub fn cartesian_to_spherical(p: Point3) -> Spherical
     }
 }
 
-// Three values of one kind as the other: 0 comes from cartesian, 1 from spherical.
-fn turn_triplet(kind: u32, p: Point3) -> Point3
-    ensures { result ≡ turned kind p }
+// Three values of one kind as the other: 0 comes from cartesian, 1 from spherical. Kinds are numbers, as document 01 has them.
+#[tactic(auto, unfolding(crate::specs::Arrays::turned))]
+fn turn_triplet(kind: u32, values: [f32; 3]) -> [f32; 3]
+    ensures { result ≡ listed (turned kind (point_at values 0)) }
 {
     match kind {
-        0 => {
-            let s = cartesian_to_spherical(p);
-            Point3 {
-                x: s.azimuth,
-                y: s.elevation,
-                z: s.radius,
-            }
-        }
-        _ => spherical_to_cartesian(Spherical {
-            azimuth: p.x,
-            elevation: p.y,
-            radius: p.z,
-        }),
+        0 => cartesian_to_spherical(values.into()).into(),
+        _ => spherical_to_cartesian(values.into()).into(),
     }
 }
 
 // Each whole triplet of a list from its kind to the other, unchecked: a load's own list goes by this.
+// By places, and not by `chunks_mut`, of whose writes a proof knows nothing.
 pub fn convert_triplets(kind: u32, values: &mut [f32])
     ensures { values.new ≡ by_triplets (turned kind) values.old }
 {
-    let count = values.len() / 3;
-    let mut place = 0;
-    while place < count {
-        let t = turn_triplet(kind, points::point_at(values, place));
+    for place in 0..values.len() / 3 {
         let at = 3 * place;
-        values[at] = t.x;
-        values[at + 1] = t.y;
-        values[at + 2] = t.z;
-        place += 1;
+        let triplet = [values[at], values[at + 1], values[at + 2]];
+        values[at..at + 3].copy_from_slice(&turn_triplet(kind, triplet));
     }
 }
 
-fn convert_array(kind: u32, values: &mut [f32]) -> Verdict
+fn convert_array(kind: u32, values: &mut [f32]) -> Result<(), Refusal>
     ensures { converted_as result values.new ≡ convert_of kind values.old }
 {
-    let v = limits::judge_values(kind, values);
-    let Verdict::Fine = v else {
-        return v;
-    };
+    limits::judge_values(kind, values)?;
     convert_triplets(kind, values);
-    v
+    Ok(())
 }
 
 // Every whole triplet is checked first: refused, nothing is written. Values left over are neither read nor
-// written.
-pub fn convert_array_to_spherical(values: &mut [f32]) -> Verdict
+// written. Two names, one for each kind, as hosts call them.
+pub fn convert_array_to_spherical(values: &mut [f32]) -> Result<(), Refusal>
     ensures { converted_as result values.new ≡ convert_of 0 values.old }
 {
     convert_array(0, values)
 }
 
-pub fn convert_array_to_cartesian(values: &mut [f32]) -> Verdict
+pub fn convert_array_to_cartesian(values: &mut [f32]) -> Result<(), Refusal>
     ensures { converted_as result values.new ≡ convert_of 1 values.old }
 {
     convert_array(1, values)

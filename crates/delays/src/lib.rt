@@ -14,6 +14,7 @@ pub struct Samples(pub f32);
 pub struct Seconds(pub f32);
 
 // What a filter query answers: the left and the right delay; with how many points were blended; or the number and the place of a refusal.
+// Three named outcomes, as document 01 has them, and a refusal by its numbers there: hosts get them as they stand.
 #[derive(Clone, Copy)]
 pub enum Outcome {
     Exact(Seconds, Seconds),
@@ -21,7 +22,8 @@ pub enum Outcome {
     Refused(u32, usize),
 }
 
-// An outcome as plain numbers, for a host or a text. The reason is 0 where nothing was refused.
+// An outcome as plain numbers, for a host or a text, as the C interface has it: a number and a flag in place of cases. The reason is 0 where
+// nothing was refused.
 #[derive(Clone, Copy)]
 pub struct Answer {
     pub reason: u32,
@@ -39,6 +41,7 @@ pub fn seconds_of(delay: Samples, rate: f32) -> Seconds
     Seconds(delay.0 / rate)
 }
 
+// By the name of its definition, which document 01 has line by line: `Answer::from` would say no more.
 pub fn answer_of(outcome: Outcome) -> Answer
     ensures { result ≡ answer_of outcome }
 {

@@ -1,10 +1,9 @@
 -- Which patterns are NaN, and what that makes of a value. Assumes nothing.
-use Rattle.std.proofs.Common.{◌≡◌, ℕ, ◌%◌, ◌<◌, ◌≤◌, Bool, true, false, not, T, sym, refl, ◌∙◌, subst, le-ltb, lt-ltb}
-use lib.Ieee.{Float, nan, inf, fin, binary32, of_bits, is_nan, nan_bits, ne}
+use Rattle.std.proofs.Common.{◌≡◌, ℕ, ◌%◌, ◌<◌, ◌≤◌, Bool, true, not, T, sym, refl, ◌∙◌, subst, le-ltb, lt-ltb}
+use lib.Ieee.{Float, nan, inf, fin, binary32, of_bits, is_nan, nan_bits}
 use lib.Ieee.Bits.{nan_bits_is, nan_bits_above}
-use Rattle.floats.proofs.Tests.{differs, same}
 
-nan_only : (x : Float) → is_nan x ≡ true → x ≡ nan
+pub nan_only : (x : Float) → is_nan x ≡ true → x ≡ nan
 unfolding is_nan
 nan_only nan e = refl
 nan_only (inf s) e = absurd (subst (λ (b : Bool). T (not b)) e tt)
@@ -15,9 +14,3 @@ pattern_nan n h = nan_only (of_bits binary32 n) (sym (nan_bits_is binary32 n) �
 
 pub pattern_no_nan : (n : ℕ) → n % 2147483648 ≤ 2139095040 → T (not (nan_bits binary32 n))
 pattern_no_nan n h = subst (λ (b : Bool). T (not b)) (sym (nan_bits_above binary32 n ∙ le-ltb _ _ h)) tt
-
-pub ne_nan : (x : Float) → ne x x ≡ true → x ≡ nan
-ne_nan x e = nan_only x (differs x e)
-
-pub no_nan : (x : Float) → ne x x ≡ false → T (not (is_nan x))
-no_nan x e = subst (λ (b : Bool). T (not b)) (sym (same x e)) tt

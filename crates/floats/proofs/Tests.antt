@@ -1,23 +1,11 @@
--- What the tests of the small functions find: a NaN, a finite value, a zero, a sign. Assumes nothing.
+-- What the tests of the small functions find: a finite value, a zero, a sign. Assumes nothing.
 use Rattle.std.proofs.Common.{◌≡◌, ℕ, zero, suc, ◌+◌, ◌*◌, ◌^◌, ◌<◌, true, false, not, ◌&&◌, T, eqb, ltb, ℤ, pos, negsuc, sym, refl, ap, ◌∙◌, subst, zero-lt-suc, mul-pos, arith, eqb→eq, ltb→lt, T_not}
 use native.Mathlib.Nat.{pow-succ'}
-use lib.Ieee.{Float, nan, inf, fin, binary32, up, down, lt, eq, ne, neg, fits, is_nan}
+use lib.Ieee.{Float, nan, inf, fin, binary32, up, down, lt, eq, neg, fits}
 use lib.Ieee.Fits.{up_pos, and_l}
-use lib.Ieee.Compare.{differs_from_itself}
 use lib.Ieee.Scale.{finite}
 use Rattle.floats.specs.Floats.{zero32, abs_of}
 use Rattle.floats.proofs.Cross.{of_taken, of_left}
-
--- only a NaN differs from itself
-pub differs : (x : Float) → ne x x ≡ true → is_nan x ≡ true
-unfolding is_nan
-differs x h = ap is_nan (differs_from_itself x (of_taken h))
-
-pub same : (x : Float) → ne x x ≡ false → is_nan x ≡ false
-unfolding is_nan ne
-same nan h = absurd (of_left h)
-same (inf s) h = refl
-same (fin s m e) h = refl
 
 -- below the one infinity and above the other
 pub finite_is : (x : Float) → (lt x (inf false) && lt (inf true) x) ≡ finite x

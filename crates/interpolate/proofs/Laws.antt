@@ -21,15 +21,12 @@ use Rattle.mix.specs.declared.Share.{Share}
 use Rattle.mix.specs.declared.Points.{Points}
 use Rattle.mix.specs.Mix.{list_of, sums, tailed, plus_product, out_of, tap_of, sample_of}
 use Rattle.interpolate.specs.declared.Stride.{Stride}
-use Rattle.interpolate.specs.Blend.{delay_at, plain_delay, blend_delay, stride_at, nowhere, stride_of, Leads, entry_of, bad_beyond, entry_in, good, known, all_known, least, closer_of, beside, closest_of, met_if, Held, share_of, taken, tiny32, close32, Neighbors, neighbors_of, distance_of, points_of, Gathers, FilterAnswer, filter_of, extract_of, blend_of, refused_of, weighed_of, interpolate_of, total_of, part}
+use Rattle.interpolate.specs.Blend.{delay_at, plain_delay, blend_delay, stride_at, stride_of, Leads, entry_of, bad_beyond, entry_in, good, known, all_known, least, near_at, closer_of, beside, closest_of, met_if, Held, share_of, taken, tiny32, close32, Neighbors, neighbors_of, distance_of, points_of, Gathers, FilterAnswer, filter_of, extract_of, blend_of, refused_of, weighed_of, interpolate_of, total_of, part}
 use Rattle.interpolate.specs.declared.Entry.{Entry}
 use Rattle.interpolate.specs.declared.Entry.TheVariants.{Absent, Measured, Bad}
-use Rattle.interpolate.specs.declared.Closest.{Closest}
-use Rattle.interpolate.specs.declared.Closest.TheVariants.{Nothing, At}
-use Rattle.interpolate.specs.declared.Met.{Met}
-use Rattle.interpolate.specs.declared.Met.TheVariants as met
-use Rattle.interpolate.specs.declared.Gathered.{Gathered}
-use Rattle.interpolate.specs.declared.Gathered.TheVariants as gathered
+use Rattle.interpolate.specs.declared.BadEntry.{BadEntry}
+use Rattle.interpolate.specs.declared.Near.{Near}
+use Rattle.std.proofs.Common.{Option, None, Some, Result, Ok, Err}
 
 -- ---- a delay that was computed, in seconds
 pub seconds : (rate : Float) {s : Seconds} {d d' : Samples} → s ≡ seconds_of d rate → d ≡ d' → s ≡ seconds_of d' rate
@@ -175,8 +172,8 @@ unfolding list_of
 total_at p k e = ap (λ (j : ℕ). total_of (take j (fours p))) (sym e)
 
 -- ---- a pair
-module _ (d : ℕ → Float) (best : Closest) (k : ℕ) (x l : Float) (ex : x ≡ d k) (el : l ≡ least best) where
-  pub closer_wins : lt x l ≡ true → At k x ≡ closer_of d best k
+module _ (d : ℕ → Float) (best : Option Near) (k : ℕ) (x l : Float) (ex : x ≡ d k) (el : l ≡ least best) where
+  pub closer_wins : lt x l ≡ true → Some (near_at k x) ≡ closer_of d best k
   unfolding closer_of
   closer_wins h = rw (← ex, ← el, h)
 
@@ -185,57 +182,57 @@ module _ (d : ℕ → Float) (best : Closest) (k : ℕ) (x l : Float) (ex : x �
   closer_stays h = rw (← ex, ← el, h)
 
 -- what it says that the entries so far were met
-pub met_best : (g : Bool) (c x : Closest) → met_if g c ≡ met.Best x → (g ≡ true) × (c ≡ x)
+pub met_best : (g : Bool) (c x : Option Near) → met_if g c ≡ Ok x → (g ≡ true) × (c ≡ x)
 met_best true c x h = (refl, cc)
 met_best false c x h = let w : ◌≡◌ {A = ℕ} 0 1 = cc in absurd (omega arith)
 
-pub met_bad : (g : Bool) (c : Closest) → met_if g c ≡ met.Bad → g ≡ false
-met_bad true c h = let w : ◌≡◌ {A = ℕ} 0 1 = cc in absurd (omega arith)
-met_bad false c h = refl
+pub met_bad : (g : Bool) (c : Option Near) (bad : BadEntry) → met_if g c ≡ Err bad → g ≡ false
+met_bad true c bad h = let w : ◌≡◌ {A = ℕ} 0 1 = cc in absurd (omega arith)
+met_bad false c bad h = refl
 
 -- a pair: its first entry was met, with this outcome
-module _ (m : ℕ) (d : ℕ → Float) (x y : ℕ) (a : Entry) (one : Met) (ea : a ≡ entry_in m x) (e1 : one ≡ met_if (good a) (beside d Nothing a)) where
-  pub pair_bad : one ≡ met.Bad → met.Bad ≡ met_if (known m x && known m y) (closest_of d x y)
+module _ (m : ℕ) (d : ℕ → Float) (x y : ℕ) (a : Entry) (one : Result (Option Near) BadEntry) (ea : a ≡ entry_in m x) (e1 : one ≡ met_if (good a) (beside d None a)) where
+  pub pair_bad : (bad : BadEntry) → one ≡ Err bad → Err bad ≡ met_if (known m x && known m y) (closest_of d x y)
   unfolding known
-  pair_bad g = let h = met_bad (good a) (beside d Nothing a) (sym e1 ∙ g) in rw (← ea, h)
+  pair_bad bad g = let h = met_bad (good a) (beside d None a) bad (sym e1 ∙ g) in rw (← ea, h)
 
-  pub pair_met : (b : Entry) (first : Closest) → one ≡ met.Best first → b ≡ entry_in m y → met_if (good b) (beside d first b) ≡ met_if (known m x && known m y) (closest_of d x y)
+  pub pair_met : (b : Entry) (first : Option Near) → one ≡ Ok first → b ≡ entry_in m y → met_if (good b) (beside d first b) ≡ met_if (known m x && known m y) (closest_of d x y)
   unfolding known closest_of
   pair_met b first g eb =
-      let h = met_best (good a) (beside d Nothing a) first (sym e1 ∙ g) in
+      let h = met_best (good a) (beside d None a) first (sym e1 ∙ g) in
       let kx : known m x ≡ true = rw (← ea) h.0 in
-      let f : first ≡ beside d Nothing (entry_of x) = sym h.1 ∙ ap (beside d Nothing) (ea ∙ known_within m x kx) in
+      let f : first ≡ beside d None (entry_of x) = sym h.1 ∙ ap (beside d None) (ea ∙ known_within m x kx) in
       rw (eb, f, kx) (go (known m y) refl)
     where
-      go : (t : Bool) → known m y ≡ t → met_if (good (entry_in m y)) (beside d (beside d Nothing (entry_of x)) (entry_in m y)) ≡ met_if (good (entry_in m y)) (beside d (beside d Nothing (entry_of x)) (entry_of y))
-      go true e = ap (λ (z : Entry). met_if (good (entry_in m y)) (beside d (beside d Nothing (entry_of x)) z)) (known_within m y e)
+      go : (t : Bool) → known m y ≡ t → met_if (good (entry_in m y)) (beside d (beside d None (entry_of x)) (entry_in m y)) ≡ met_if (good (entry_in m y)) (beside d (beside d None (entry_of x)) (entry_of y))
+      go true e = ap (λ (z : Entry). met_if (good (entry_in m y)) (beside d (beside d None (entry_of x)) z)) (known_within m y e)
       go false e = rw e
 
 -- at most one is taken
-pub taken_length : (b : Closest) → length (taken b) ≤ 1
-taken_length Nothing = omega arith
-taken_length (At k e) = two (lt tiny32 e) (share_of k e)
+pub taken_length : (b : Option Near) → length (taken b) ≤ 1
+taken_length None = omega arith
+taken_length (Some near) = two (lt tiny32 near.distance) (share_of near.number near.distance)
   where
     two : (t : Bool) (s : Share) → length (cond t (s ∷ []) []) ≤ 1
     two true s = omega arith
     two false s = omega arith
 
-pub taken_yes : (k : ℕ) (x : Float) (b : Closest) → b ≡ At k x → lt tiny32 x ≡ true → taken b ≡ share_of k x ∷ []
-taken_yes k x b e h = ap taken e ∙ rw h
+pub taken_yes : (near : Near) (b : Option Near) → b ≡ Some near → lt tiny32 near.distance ≡ true → taken b ≡ share_of near.number near.distance ∷ []
+taken_yes near b e h = ap taken e ∙ rw h
 
-pub taken_no : (k : ℕ) (x : Float) (b : Closest) → b ≡ At k x → lt tiny32 x ≡ false → taken b ≡ []
-taken_no k x b e h = ap taken e ∙ rw h
+pub taken_no : (near : Near) (b : Option Near) → b ≡ Some near → lt tiny32 near.distance ≡ false → taken b ≡ []
+taken_no near b e h = ap taken e ∙ rw h
 
 -- a closest is a measurement
-held_closer : (m : ℕ) (d : ℕ → Float) (b : Closest) (k : ℕ) → k < m → Held m b → Held m (closer_of d b k)
+held_closer : (m : ℕ) (d : ℕ → Float) (b : Option Near) (k : ℕ) → k < m → Held m b → Held m (closer_of d b k)
 unfolding closer_of
 held_closer m d b k hk h = go (lt (d k) (least b))
   where
-    go : (t : Bool) → Held m (cond t (At k (d k)) b)
+    go : (t : Bool) → Held m (cond t (Some (near_at k (d k))) b)
     go true = hk
     go false = h
 
-held_beside : (m : ℕ) (d : ℕ → Float) (b : Closest) (e : Entry) → bad_beyond m e ≡ e → Held m b → Held m (beside d b e)
+held_beside : (m : ℕ) (d : ℕ → Float) (b : Option Near) (e : Entry) → bad_beyond m e ≡ e → Held m b → Held m (beside d b e)
 held_beside m d b Absent w h = h
 held_beside m d b (Measured k) w h = held_closer m d b k (within_below m k w) h
 held_beside m d b Bad w h = h
@@ -243,8 +240,8 @@ held_beside m d b Bad w h = h
 pub closest_held : (m : ℕ) (d : ℕ → Float) (x y : ℕ) → (known m x && known m y) ≡ true → Held m (closest_of d x y)
 unfolding closest_of
 closest_held m d x y h =
-    held_beside m d (beside d Nothing (entry_of x)) (entry_of y) (known_within m y (and_right (known m x) (known m y) h))
-    (held_beside m d Nothing (entry_of x) (known_within m x (and_left (known m x) (known m y) h)) tt)
+    held_beside m d (beside d None (entry_of x)) (entry_of y) (known_within m y (and_right (known m x) (known m y) h))
+    (held_beside m d None (entry_of x) (known_within m x (and_left (known m x) (known m y) h)) tt)
 
 -- ---- one point more
 pub push1 : (p : Points) (s : Share) → p.count ≡ 1 → list_of (record { count = 2; a = p.a; b = s; c = p.c; d = p.d }) ≡ list_of p ++ (s ∷ [])
@@ -265,6 +262,9 @@ unfolding list_of
 divided_list p sum a b c d ea eb ec ed = rw (ea, eb, ec, ed) (take_map (part sum) p.count (fours p))
 
 -- ---- delays
+some_same : {A : Type 0} {x y : A} → Some x ≡ Some y → x ≡ y
+some_same e = cc
+
 module _ (len m r e : ℕ) where
   pub by_one : len ≡ m → stride_at 1 0 ≡ stride_of len m r e
   unfolding stride_of
@@ -278,42 +278,42 @@ module _ (len m r e : ℕ) where
   unfolding stride_of
   by_two g h i = rw (ne_eqb len m g, lt-leb (m * r) len h, le-leb r len i)
 
-  pub by_none : (len ≡ m → ⊥) → len < m * r → len < r → nowhere ≡ stride_of len m r e
+  pub by_none : (len ≡ m → ⊥) → len < m * r → len < r → None ≡ stride_of len m r e
   unfolding stride_of
   by_none g h i = rw (ne_eqb len m g, lt-leb (m * r) len h, lt-leb r len i)
 
   -- a measurement's delay lies inside the list
-  pub stride_in : (k : ℕ) (s : Stride) → s ≡ stride_of len m r e → k < m → 2 ≤ r → e ≤ 1 → s.some ≡ true → Leads s len k
+  pub stride_in : (k : ℕ) (s : Stride) → Some s ≡ stride_of len m r e → k < m → 2 ≤ r → e ≤ 1 → Leads s len k
   unfolding stride_of
-  stride_in k s q hk hr he h = rw q (go (eqb len m) (leb (m * r) len) (leb r len) refl refl refl (rw q at h))
+  stride_in k s q hk hr he = go (eqb len m) (leb (m * r) len) (leb r len) refl refl refl q
     where
       each : m * r ≤ len → k * r + e < len
       each g = omega (arith, suc-mul k r, mul-le-mul_right r hk)
 
-      go : (a b c : Bool) → eqb len m ≡ a → leb (m * r) len ≡ b → leb r len ≡ c → (cond a (stride_at 1 0) (cond b (stride_at r e) (cond c (stride_at 0 e) nowhere))).some ≡ true
-          → k * (cond a (stride_at 1 0) (cond b (stride_at r e) (cond c (stride_at 0 e) nowhere))).times + (cond a (stride_at 1 0) (cond b (stride_at r e) (cond c (stride_at 0 e) nowhere))).plus < len
-      go true b c ea eb ec t = omega (arith, eqb-true len m ea)
-      go false true c ea eb ec t = each (leb-true (m * r) len eb)
-      go false false true ea eb ec t = omega (arith, leb-true r len ec)
+      go : (a b c : Bool) → eqb len m ≡ a → leb (m * r) len ≡ b → leb r len ≡ c → Some s ≡ cond a (stride_at 1 0) (cond b (stride_at r e) (cond c (stride_at 0 e) None))
+          → k * s.times + s.plus < len
+      go true b c ea eb ec t = rw (some_same t) (omega (arith, eqb-true len m ea))
+      go false true c ea eb ec t = rw (some_same t) (each (leb-true (m * r) len eb))
+      go false false true ea eb ec t = rw (some_same t) (omega (arith, leb-true r len ec))
       go false false false ea eb ec t = let z : ◌≡◌ {A = ℕ} 0 1 = cc in absurd (omega arith)
 
 -- a delay where there are some, and where there are none
-module _ (delays : List Float) (m r e : ℕ) (s : Stride) (q : s ≡ stride_of (length delays) m r e) where
-  pub plain_some : (k : ℕ) → s.some ≡ true → record { 0 = delay_at delays s k } ≡ plain_delay delays m r e k
+module _ (delays : List Float) (m r e : ℕ) where
+  pub plain_some : (s : Stride) → Some s ≡ stride_of (length delays) m r e → (k : ℕ) → record { 0 = delay_at delays s k } ≡ plain_delay delays m r e k
   unfolding plain_delay
-  plain_some k h = rw (← q, h)
+  plain_some s q k = rw (← q)
 
-  pub plain_none : (k : ℕ) → s.some ≡ false → record { 0 = zero32 } ≡ plain_delay delays m r e k
+  pub plain_none : None ≡ stride_of (length delays) m r e → (k : ℕ) → record { 0 = zero32 } ≡ plain_delay delays m r e k
   unfolding plain_delay
-  plain_none k h = rw (← q, h)
+  plain_none q k = rw (← q)
 
-  pub blend_some : (ps : List Share) (x : Float) → x ≡ sums (delay_at delays s) zero32 ps → s.some ≡ true → record { 0 = x } ≡ blend_delay delays m r e ps
+  pub blend_some : (s : Stride) → Some s ≡ stride_of (length delays) m r e → (ps : List Share) (x : Float) → x ≡ sums (delay_at delays s) zero32 ps → record { 0 = x } ≡ blend_delay delays m r e ps
   unfolding blend_delay
-  blend_some ps x t h = rw (← q, h, t)
+  blend_some s q ps x t = rw (← q, t)
 
-  pub blend_none : (ps : List Share) → s.some ≡ false → record { 0 = zero32 } ≡ blend_delay delays m r e ps
+  pub blend_none : None ≡ stride_of (length delays) m r e → (ps : List Share) → record { 0 = zero32 } ≡ blend_delay delays m r e ps
   unfolding blend_delay
-  blend_none ps h = rw (← q, h)
+  blend_none q ps = rw (← q)
 
 -- the three coordinates and the six entries of a measurement are there
 pub three_in : (k m len : ℕ) → k < m → 3 * m ≤ len → 3 * k + 2 < len
@@ -331,19 +331,19 @@ module _ (m r n : ℕ) (resp delays : List Float) (rate : Float) (ll rl : ℕ) (
   unfolding interpolate_of
   way_close x eo e h = eo ∙ rw (← e, h)
 
-  abbrev here : Gathered → Type 0
+  abbrev here : Result Points BadEntry → Type 0
   here g = Gathers m (all_known m (neighbors_of near k)) (points_of (distance_of cart q) (neighbors_of near k) k) g
 
-  pub way_refused : {o : FilterAnswer} (x : Float) (g : Gathered) → o ≡ refused_of 9 0 ll rl → x ≡ distance_of cart q k → lt x close32 ≡ false → here g → g ≡ gathered.Bad → o ≡ answer
+  pub way_refused : {o : FilterAnswer} (x : Float) (g : Result Points BadEntry) (bad : BadEntry) → o ≡ refused_of 9 0 ll rl → x ≡ distance_of cart q k → lt x close32 ≡ false → here g → g ≡ Err bad → o ≡ answer
   unfolding interpolate_of
-  way_refused x g eo e h w eg = let a = subst here eg w in eo ∙ rw (← e, h, a)
+  way_refused x g bad eo e h w eg = let a = subst here eg w in eo ∙ rw (← e, h, a)
 
-  pub way_light : {o : FilterAnswer} (x : Float) (p : Points) (t : Float) → o ≡ extract_of m r n resp delays rate ll rl k → x ≡ distance_of cart q k → lt x close32 ≡ false → here (gathered.Points p)
+  pub way_light : {o : FilterAnswer} (x : Float) (p : Points) (t : Float) → o ≡ extract_of m r n resp delays rate ll rl k → x ≡ distance_of cart q k → lt x close32 ≡ false → here (Ok p)
       → t ≡ total_of (list_of p) → lt t tiny32 ≡ true → o ≡ answer
   unfolding interpolate_of weighed_of
   way_light x p t eo e h w et ht = eo ∙ rw (← e, h, w.0, ← w.1, ← et, ht)
 
-  pub way_blended : {o : FilterAnswer} (x : Float) (p : Points) (t : Float) (qs : List Share) → o ≡ blend_of m r n resp delays rate ll rl qs → x ≡ distance_of cart q k → lt x close32 ≡ false → here (gathered.Points p)
+  pub way_blended : {o : FilterAnswer} (x : Float) (p : Points) (t : Float) (qs : List Share) → o ≡ blend_of m r n resp delays rate ll rl qs → x ≡ distance_of cart q k → lt x close32 ≡ false → here (Ok p)
       → t ≡ total_of (list_of p) → lt t tiny32 ≡ false → qs ≡ map (part t) (list_of p) → o ≡ answer
   unfolding interpolate_of weighed_of
   way_blended x p t qs eo e h w et ht eq = eo ∙ rw (← e, h, w.0, ← w.1, ← et, ht, ← eq)

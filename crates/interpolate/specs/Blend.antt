@@ -1,6 +1,7 @@
 -- Document 01's "Blend": which points are blended with which weights, which delays are meant, and what a filter query then answers and writes.
 -- Definitions only.
-use Rattle.std.specs.Prelude.{◌≡◌, ℕ, ◌+◌, ◌*◌, ◌<◌, ◌≤◌, Bool, true, false, cond, ◌&&◌, List, [], ◌∷◌, ◌++◌, map, eqb, leb, ltb, length, get_or, replicate, Float}
+use Rattle.std.specs.Prelude.{◌≡◌, ℕ, ◌+◌, ◌*◌, ◌<◌, ◌≤◌, Bool, true, false, cond, ◌&&◌, List, [], ◌∷◌, ◌++◌, map, eqb, leb, ltb, length, get_or, replicate, Float, Option, None, Some, Result, Ok, Err}
+use Rattle.std.specs.Option.{option_map_or}
 use Rattle.std.specs.Float.{nan, binary32}
 use Rattle.std.specs.Float.Ieee.{of_bits, add, div, lt}
 use Rattle.floats.specs.Floats.{zero32, one32}
@@ -16,12 +17,8 @@ use Rattle.mix.specs.declared.Points.{Points}
 use Rattle.mix.specs.Mix.{sums, tap_of, sample_of, out_of, list_of, Placed}
 use Rattle.interpolate.specs.declared.Entry.{Entry}
 use Rattle.interpolate.specs.declared.Entry.TheVariants.{Absent, Measured, Bad}
-use Rattle.interpolate.specs.declared.Closest.{Closest}
-use Rattle.interpolate.specs.declared.Closest.TheVariants.{Nothing, At}
-use Rattle.interpolate.specs.declared.Met.{Met}
-use Rattle.interpolate.specs.declared.Met.TheVariants as met
-use Rattle.interpolate.specs.declared.Gathered.{Gathered}
-use Rattle.interpolate.specs.declared.Gathered.TheVariants as gathered
+use Rattle.interpolate.specs.declared.BadEntry.{BadEntry}
+use Rattle.interpolate.specs.declared.Near.{Near}
 use Rattle.interpolate.specs.declared.Stride.{Stride}
 
 -- the f32 nearest to 1e-6 and to 1e-10, and the largest f32
@@ -66,42 +63,45 @@ known m k = good (entry_in m k)
 
 -- ---- a pair of neighbours, where d k is how far measurement k is
 -- what the next one must be below
-abbrev pub least : Closest → Float
-least Nothing = largest32
-least (At k e) = e
+abbrev pub least : Option Near → Float
+least None = largest32
+least (Some near) = near.distance
+
+abbrev pub near_at : ℕ → Float → Near
+near_at k e = record { number = k; distance = e }
 
 -- measurement k beside the closest so far: it wins where it is strictly closer, so that the first listed keeps a tie
-unfoldable pub closer_of : (ℕ → Float) → Closest → ℕ → Closest
-closer_of d best k = cond (lt (d k) (least best)) (At k (d k)) best
+unfoldable pub closer_of : (ℕ → Float) → Option Near → ℕ → Option Near
+closer_of d best k = cond (lt (d k) (least best)) (Some (near_at k (d k))) best
 
 -- an entry beside the closest so far
-abbrev pub beside : (ℕ → Float) → Closest → Entry → Closest
+abbrev pub beside : (ℕ → Float) → Option Near → Entry → Option Near
 beside d best Absent = best
 beside d best (Measured k) = closer_of d best k
 beside d best Bad = best
 
 -- the closest of a pair as it stands
-unfoldable pub closest_of : (ℕ → Float) → ℕ → ℕ → Closest
-closest_of d a b = beside d (beside d Nothing (entry_of a)) (entry_of b)
+unfoldable pub closest_of : (ℕ → Float) → ℕ → ℕ → Option Near
+closest_of d a b = beside d (beside d None (entry_of a)) (entry_of b)
 
 -- what the code answers of a closest: itself where all entries are good
-abbrev pub met_if : Bool → Closest → Met
-met_if true best = met.Best best
-met_if false best = met.Bad
+abbrev pub met_if : Bool → Option Near → Result (Option Near) BadEntry
+met_if true best = Ok best
+met_if false best = Err (record {})
 
 -- a closest is one of m measurements
-abbrev pub Held : ℕ → Closest → Type 0
-Held m Nothing = Unit
-Held m (At k e) = k < m
+abbrev pub Held : ℕ → Option Near → Type 0
+Held m None = Unit
+Held m (Some near) = near.number < m
 
 -- the weight is 1 / distance
 abbrev pub share_of : ℕ → Float → Share
 share_of k d = record { number = k; weight = div binary32 one32 d }
 
 -- "taken only if above 1e-10 and below the largest f32", which the closest of a pair is
-abbrev pub taken : Closest → List Share
-taken Nothing = []
-taken (At k e) = cond (lt tiny32 e) (share_of k e ∷ []) []
+abbrev pub taken : Option Near → List Share
+taken None = []
+taken (Some near) = cond (lt tiny32 near.distance) (share_of near.number near.distance ∷ []) []
 
 abbrev pub pair_of : (ℕ → Float) → ℕ → ℕ → List Share
 pair_of d a b = taken (closest_of d a b)
@@ -130,9 +130,9 @@ unfoldable pub points_of : (ℕ → Float) → Neighbors → ℕ → List Share
 points_of d s k = (((share_of k (d k) ∷ []) ++ pair_of d s.phi_plus s.phi_minus) ++ pair_of d s.theta_plus s.theta_minus) ++ pair_of d s.radius_plus s.radius_minus
 
 -- what the code answers of them: where all entries are good the points ps, in places that all hold measurements
-abbrev pub Gathers : ℕ → Bool → List Share → Gathered → Type 0
-Gathers m fine ps (gathered.Points p) = (fine ≡ true) × (list_of p ≡ ps) × Placed m p
-Gathers m fine ps gathered.Bad = fine ≡ false
+abbrev pub Gathers : ℕ → Bool → List Share → Result Points BadEntry → Type 0
+Gathers m fine ps (Ok p) = (fine ≡ true) × (list_of p ≡ ps) × Placed m p
+Gathers m fine ps (Err bad) = fine ≡ false
 
 -- the weights, added up from +0 in order
 unfoldable pub total_from : Float → List Share → Float
@@ -148,15 +148,12 @@ part s p = record { number = p.number; weight = div binary32 p.weight s }
 
 -- ---- delays, in samples, for receiver e
 -- where measurement k's stands: at k * times + plus, or nowhere
-abbrev pub stride_at : ℕ → ℕ → Stride
-stride_at times plus = record { some = true; times = times; plus = plus }
-
-abbrev pub nowhere : Stride
-nowhere = record { some = false; times = 0; plus = 0 }
+abbrev pub stride_at : ℕ → ℕ → Option Stride
+stride_at times plus = Some (record { times = times; plus = plus })
 
 -- "by their count L: L = M, one per measurement for both ears; else L ≥ M·R, per measurement and receiver; else L ≥ R, first two for all; else 0"
-unfoldable pub stride_of : ℕ → ℕ → ℕ → ℕ → Stride
-stride_of len m r e = cond (eqb len m) (stride_at 1 0) (cond (leb (m * r) len) (stride_at r e) (cond (leb r len) (stride_at 0 e) nowhere))
+unfoldable pub stride_of : ℕ → ℕ → ℕ → ℕ → Option Stride
+stride_of len m r e = cond (eqb len m) (stride_at 1 0) (cond (leb (m * r) len) (stride_at r e) (cond (leb r len) (stride_at 0 e) None))
 
 -- where it leads, for measurement k and for each of four places, into a list of so many delays
 abbrev pub Leads : Stride → ℕ → ℕ → Type 0
@@ -168,12 +165,12 @@ AllLead s len p = Leads s len p.a.number × Leads s len p.b.number × Leads s le
 abbrev pub delay_at : List Float → Stride → ℕ → Float
 delay_at delays s k = get_or delays (k * s.times + s.plus) nan
 
--- measurement k's, and that of weighed points
+-- measurement k's, and that of weighed points: +0 where there are none
 unfoldable pub plain_delay : List Float → ℕ → ℕ → ℕ → ℕ → Samples
-plain_delay delays m r e k = let s = stride_of (length delays) m r e in record { 0 = cond s.some (delay_at delays s k) zero32 }
+plain_delay delays m r e k = record { 0 = option_map_or (λ s. delay_at delays s k) (stride_of (length delays) m r e) zero32 }
 
 unfoldable pub blend_delay : List Float → ℕ → ℕ → ℕ → List Share → Samples
-blend_delay delays m r e ps = let s = stride_of (length delays) m r e in record { 0 = cond s.some (sums (delay_at delays s) zero32 ps) zero32 }
+blend_delay delays m r e ps = record { 0 = option_map_or (λ s. sums (delay_at delays s) zero32 ps) (stride_of (length delays) m r e) zero32 }
 
 -- ---- what a filter query answers and what its two outputs then hold
 pub record FilterAnswer : Type 0 where

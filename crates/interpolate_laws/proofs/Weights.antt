@@ -22,11 +22,11 @@ use Rattle.points.specs.declared.Point3.{Point3}
 use Rattle.mix.specs.declared.Share.{Share}
 use Rattle.delays.specs.declared.Seconds.{Seconds}
 use Rattle.delays.specs.declared.Outcome.TheVariants.{Exact, Blended, Refused}
-use Rattle.interpolate.specs.Blend.{close32, tiny32, largest32, total_from, total_of, part, share_of, entry_of, bad_beyond, known, all_known, least, closer_of, beside, closest_of, taken, pair_of, Neighbors, points_of, distance_of, neighbors_of, FilterAnswer, extract_of, blend_of, weighed_of, refused_of, interpolate_of}
+use Rattle.interpolate.specs.Blend.{close32, tiny32, largest32, total_from, total_of, part, share_of, entry_of, bad_beyond, known, all_known, least, near_at, closer_of, beside, closest_of, taken, pair_of, Neighbors, points_of, distance_of, neighbors_of, FilterAnswer, extract_of, blend_of, weighed_of, refused_of, interpolate_of}
 use Rattle.interpolate.specs.declared.Entry.{Entry}
 use Rattle.interpolate.specs.declared.Entry.TheVariants as entry
-use Rattle.interpolate.specs.declared.Closest.{Closest}
-use Rattle.interpolate.specs.declared.Closest.TheVariants.{Nothing, At}
+use Rattle.std.proofs.Common.{Option, None, Some}
+use Rattle.interpolate.specs.declared.Near.{Near}
 use Rattle.interpolate.proofs.Laws.{within_below, known_within, neighbors_known, taken_length}
 use Rattle.lists.specs.Each.{Each}
 use Rattle.lists.proofs.Laws.{each_append}
@@ -190,25 +190,25 @@ points_count d s k = (
 
 -- ---- all of them sound, where no measurement's distance is negative or a NaN and the nearest's is not below 1e-6
 module _ (m : ℕ) (d : ℕ → Float) (h : (j : ℕ) → j < m → T (nonneg (d j))) where
-  closer_nonneg : (b : Closest) (k : ℕ) → k < m → T (nonneg (least b)) → T (nonneg (least (closer_of d b k)))
+  closer_nonneg : (b : Option Near) (k : ℕ) → k < m → T (nonneg (least b)) → T (nonneg (least (closer_of d b k)))
   unfolding closer_of
   closer_nonneg b k e g = go (lt (d k) (least b))
     where
-      go : (u : Bool) → T (nonneg (least (cond u (At k (d k)) b)))
+      go : (u : Bool) → T (nonneg (least (cond u (Some (near_at k (d k))) b)))
       go true = h k e
       go false = g
 
-  beside_nonneg : (b : Closest) (e : Entry) → bad_beyond m e ≡ e → T (nonneg (least b)) → T (nonneg (least (beside d b e)))
+  beside_nonneg : (b : Option Near) (e : Entry) → bad_beyond m e ≡ e → T (nonneg (least b)) → T (nonneg (least (beside d b e)))
   beside_nonneg b entry.Absent w g = g
   beside_nonneg b (entry.Measured k) w g = closer_nonneg b k (within_below m k w) g
   beside_nonneg b entry.Bad w g = g
 
-  taken_sound : (b : Closest) → T (nonneg (least b)) → Each Sound (taken b)
-  taken_sound Nothing g = tt
-  taken_sound (At k e) g = go (lt tiny32 e) refl
+  taken_sound : (b : Option Near) → T (nonneg (least b)) → Each Sound (taken b)
+  taken_sound None g = tt
+  taken_sound (Some near) g = go (lt tiny32 near.distance) refl
     where
-      go : (u : Bool) → lt tiny32 e ≡ u → Each Sound (cond u (share_of k e ∷ []) [])
-      go true q = (share_sound k e g (lt→le tiny32 e (of_taken q)), tt)
+      go : (u : Bool) → lt tiny32 near.distance ≡ u → Each Sound (cond u (share_of near.number near.distance ∷ []) [])
+      go true q = (share_sound near.number near.distance g (lt→le tiny32 near.distance (of_taken q)), tt)
       go false q = tt
 
   largest_nonneg : T (nonneg largest32)
@@ -218,8 +218,8 @@ module _ (m : ℕ) (d : ℕ → Float) (h : (j : ℕ) → j < m → T (nonneg (d
   pair_sound : (a b : ℕ) → known m a ≡ true → known m b ≡ true → Each Sound (pair_of d a b)
   unfolding closest_of
   pair_sound a b ka kb =
-      let first = beside d Nothing (entry_of a) in
-      taken_sound (beside d first (entry_of b)) (beside_nonneg first (entry_of b) (known_within m b kb) (beside_nonneg Nothing (entry_of a) (known_within m a ka) largest_nonneg))
+      let first = beside d None (entry_of a) in
+      taken_sound (beside d first (entry_of b)) (beside_nonneg first (entry_of b) (known_within m b kb) (beside_nonneg None (entry_of a) (known_within m a ka) largest_nonneg))
 
   pub points_sound : (s : Neighbors) (k : ℕ) → k < m → all_known m s ≡ true → lt (d k) close32 ≡ false → Each Sound (points_of d s k)
   unfolding points_of

@@ -1,6 +1,6 @@
 -- What the code does by an index and the definitions by the axis: coordinates, the next axis, one corner of a box replaced. Assumes nothing.
 use mathlib.Core.Path.{◌≡◌, refl, ap, ◌∙◌}
-use mathlib.Core.Bool.{Bool, true, false, not, cond}
+use mathlib.Core.Bool.{Bool, true, false, cond}
 use mathlib.Core.List.{[], ◌∷◌}
 use Prim.Native.Nat.{ℕ, zero, suc, ◌+◌, ◌<◌, ◌≤◌}
 use native.Mathlib.Omega.{arith}
@@ -9,19 +9,6 @@ use lib.ListN.{get_or}
 use lib.Ieee.{Float, nan}
 use Rattle.kdtree.specs.declared.BoundingBox.{BoundingBox}
 use Rattle.kdtree.specs.Geometry.{byAxis, next_axis, corner_of, with_min, with_max}
-use Rattle.kdtree.specs.Search.{nearer_box, farther_box}
-
-pub low_same : (n : ℕ) → n < 2 → n ≡ byAxis n 0 1 2
-unfolding byAxis
-low_same zero h = refl
-low_same (suc zero) h = refl
-low_same (suc (suc n)) h = absurd (omega arith)
-
-pub low_two : (n : ℕ) → 2 ≤ n → ◌≡◌ {A = ℕ} 2 (byAxis n 0 1 2)
-unfolding byAxis
-low_two zero h = absurd (omega arith)
-low_two (suc zero) h = absurd (omega arith)
-low_two (suc (suc n)) h = refl
 
 pub low_most : (n : ℕ) → byAxis n 0 1 2 ≤ 2
 unfolding byAxis
@@ -47,9 +34,6 @@ unfolding byAxis
 at_index zero x y z = refl
 at_index (suc zero) x y z = refl
 at_index (suc (suc n)) x y z = refl
-
-pub plus_none : (n : ℕ) → n ≡ n + 0
-plus_none n = omega arith
 
 -- the box that the code makes, k being the corner's number
 abbrev selected : BoundingBox → ℕ → Float → BoundingBox
@@ -78,13 +62,3 @@ pub made : (b : BoundingBox) (n : ℕ) (v : Float) (g : Bool) (k : ℕ) → k �
 made b n v g k e ex ey ez ex' ey' ez' =
     let w : selected b k v ≡ cond g (with_max b n v) (with_min b n v) = ap (λ (k : ℕ). selected b k v) e ∙ by_number b n v g in
     cc
-
--- the sides of a node as the search calls them
-pub nearer_side_lem : (b : BoundingBox) (n : ℕ) (v : Float) (g : Bool) → cond g (with_max b n v) (with_min b n v) ≡ nearer_box g b n v
-unfolding nearer_box
-nearer_side_lem b n v g = refl
-
-pub farther_side_lem : (b : BoundingBox) (n : ℕ) (v : Float) (g : Bool) → cond (not g) (with_max b n v) (with_min b n v) ≡ farther_box g b n v
-unfolding farther_box
-farther_side_lem b n v true = refl
-farther_side_lem b n v false = refl

@@ -1,5 +1,6 @@
 -- What holds of every node of a tree, and what a search and the way down to a slot keep of it. Assumes nothing.
 use mathlib.Core.Path.{◌≡◌, sym, subst}
+use Rattle.std.proofs.Common.{Option, Some, None}
 use mathlib.Core.Bool.{Bool, true, false, cond}
 use mathlib.Core.List.{List}
 use Prim.Native.Nat.{ℕ, zero, suc, ◌<◌}
@@ -9,16 +10,14 @@ use lib.Ieee.{Float, lt}
 use Rattle.points.specs.declared.Point3.{Point3}
 use Rattle.kdtree.specs.declared.BoundingBox.{BoundingBox}
 use Rattle.kdtree.specs.declared.Best.{Best}
-use Rattle.kdtree.specs.declared.Searched.{Searched}
-use Rattle.kdtree.specs.declared.Searched.TheVariants.{Found, Stopped}
 use Rattle.kdtree.specs.declared.Link.{Link}
 use Rattle.kdtree.specs.declared.Slot.{Slot}
-use Rattle.kdtree.specs.declared.Slot.TheVariants.{Left, Right, None}
+use Rattle.kdtree.specs.declared.Slot.TheVariants.{Left, Right}
 use Rattle.points.specs.Points.{dist_sq_of}
 use Rattle.kdtree.specs.Geometry.{coord_of, box_dist_sq, next_axis, left_first, goes_left}
 use Rattle.kdtree.specs.Tree.{Tree, gone, bad, node, side_of, subtree}
 use Rattle.kdtree.specs.Search.{search, improve, visited, farther, after_near, nearer_box, farther_box, Go}
-use Rattle.kdtree.specs.Insert.{slot_in, side_slot}
+use Rattle.kdtree.specs.Insert.{slot_in, side_slot, owner_of}
 use Rattle.kdtree.proofs.Step.{Said, said, said_gone, said_bad, said_to}
 
 module _ (P : ℕ → Point3 → Type 0) where
@@ -51,14 +50,14 @@ module _ (left right : List ℕ) (xs : List Float) (count : ℕ) where
 -- ---- an invariant of the best so far
 
 module _ (Q : Best → Type 0) where
-  abbrev pub Good : Searched → Type 0
-  Good (Found s) = Q s
-  Good Stopped = Unit
+  abbrev pub Good : Option Best → Type 0
+  Good (Some s) = Q s
+  Good None = Unit
 
   abbrev pub GoodGo : Go → Type 0
   GoodGo go = (b : BoundingBox) (axis : ℕ) (s : Best) → Q s → Good (go b axis s)
 
-  cond_good : (c : Bool) (v w : Searched) → Good v → Good w → Good (cond c v w)
+  cond_good : (c : Bool) (v w : Option Best) → Good v → Good w → Good (cond c v w)
   cond_good true v w a b = a
   cond_good false v w a b = b
 
@@ -66,10 +65,10 @@ module _ (Q : Best → Type 0) where
   cond_go true v w a b = a
   cond_go false v w a b = b
 
-  after_good : (w : Searched) (k : Best → Searched) → Good w → ((t : Best) → Q t → Good (k t)) → Good (after_near w k)
+  after_good : (w : Option Best) (k : Best → Option Best) → Good w → ((t : Best) → Q t → Good (k t)) → Good (after_near w k)
   unfolding after_near
-  after_good (Found s) k h g = g s h
-  after_good Stopped k h g = tt
+  after_good (Some s) k h g = g s h
+  after_good None k h g = tt
 
   farther_good : (q : Point3) (t : Tree) (go : Go) (b : BoundingBox) (axis : ℕ) (s : Best) → GoodGo go → Q s → Good (farther q t go b axis s)
   unfolding farther
@@ -86,7 +85,7 @@ module _ (Q : Best → Type 0) where
         let u = search_good l a.1.0 in
         let v = search_good r a.1.1 in
         let lf = left_first q p axis in
-        cond_good (ltb s.visits M) _ Stopped
+        cond_good (ltb s.visits M) _ None
         (after_good (cond lf (search M q l) (search M q r) (nearer_box lf b axis (coord_of p axis)) (next_axis axis) (visited s)) _
         (cond_go lf (search M q l) (search M q r) u v (nearer_box lf b axis (coord_of p axis)) (next_axis axis) (visited s) (kept s g))
         (λ t h. farther_good q (cond lf r l) (cond lf (search M q r) (search M q l)) (farther_box lf b axis (coord_of p axis)) (next_axis axis) (improve n (dist_sq_of p q) t)
@@ -108,32 +107,30 @@ module _ (count M : ℕ) (q : Point3) where
   below_kept bad a = tt
   below_kept (node n p l r) a = ((λ s h. improve_at n (dist_sq_of p q) s a.0 h), (below_kept l a.1.0, below_kept r a.1.1))
 
-  pub found_below : (t : Tree) (b : BoundingBox) (axis : ℕ) (s r : Best) → Below count t → s.place < count → Found r ≡ search M q t b axis s → r.place < count
+  pub found_below : (t : Tree) (b : BoundingBox) (axis : ℕ) (s r : Best) → Below count t → s.place < count → Some r ≡ search M q t b axis s → r.place < count
   unfolding visited
   found_below t b axis s r a h e =
       subst (Good (λ s. s.place < count)) (sym e) (search_good (λ s. s.place < count) M q (λ s g. g) t (below_kept t a) b axis s h)
 
 -- the owner of a slot is below the count
-abbrev pub OwnerBelow : ℕ → Slot → Type 0
-OwnerBelow count (Left o) = o < count
-OwnerBelow count (Right o) = o < count
-OwnerBelow count None = Unit
+module _ (count : ℕ) (p : Point3) (some : 0 < count) where
+  abbrev OwnerBelow : Slot → Type 0
+  OwnerBelow s = owner_of s < count
 
-module _ (count : ℕ) (p : Point3) where
-  side_owner : (t : Tree) (v w : Slot) → OwnerBelow count v → OwnerBelow count w → OwnerBelow count (side_slot t v w)
+  side_owner : (t : Tree) (v w : Slot) → OwnerBelow v → OwnerBelow w → OwnerBelow (side_slot t v w)
   unfolding side_slot
   side_owner gone v w a b = a
-  side_owner bad v w a b = tt
+  side_owner bad v w a b = some
   side_owner (node n x l r) v w a b = b
 
-  cond_owner : (c : Bool) (v w : Slot) → OwnerBelow count v → OwnerBelow count w → OwnerBelow count (cond c v w)
+  cond_owner : (c : Bool) (v w : Slot) → OwnerBelow v → OwnerBelow w → OwnerBelow (cond c v w)
   cond_owner true v w a b = a
   cond_owner false v w a b = b
 
-  pub slot_below : (t : Tree) (axis : ℕ) → Below count t → OwnerBelow count (slot_in p t axis)
+  pub slot_below : (t : Tree) (axis : ℕ) → Below count t → OwnerBelow (slot_in p t axis)
   unfolding slot_in
-  slot_below gone axis a = tt
-  slot_below bad axis a = tt
+  slot_below gone axis a = some
+  slot_below bad axis a = some
   slot_below (node n x l r) axis a =
       cond_owner (goes_left p x axis) _ _ (side_owner l (Left n) (slot_in p l (next_axis axis)) a.0 (slot_below l (next_axis axis) a.1.0))
       (side_owner r (Right n) (slot_in p r (next_axis axis)) a.0 (slot_below r (next_axis axis) a.1.1))

@@ -1,6 +1,7 @@
 -- One step of the search and of the way down to a slot, in the terms of the code: each value that the code has, with the equation that it
 -- has for it, and what the definition then says. Assumes nothing.
 use mathlib.Core.Path.{◌≡◌, refl, sym, ap, ◌∙◌}
+use Rattle.std.proofs.Common.{Option, Some, None}
 use mathlib.Core.Bool.{Bool, true, false, cond, ◌&&◌}
 use mathlib.Core.List.{List}
 use Prim.Native.Nat.{ℕ, zero, suc, ◌+◌, ◌*◌, ◌-◌, ◌<◌, ◌≤◌}
@@ -13,15 +14,13 @@ use Rattle.floats.specs.Floats.{zero32}
 use Rattle.points.specs.declared.Point3.{Point3}
 use Rattle.kdtree.specs.declared.BoundingBox.{BoundingBox}
 use Rattle.kdtree.specs.declared.Best.{Best}
-use Rattle.kdtree.specs.declared.Searched.{Searched}
-use Rattle.kdtree.specs.declared.Searched.TheVariants.{Found, Stopped}
 use Rattle.kdtree.specs.declared.Link.{Link}
 use Rattle.kdtree.specs.declared.Link.TheVariants.{Gone, To, Bad}
 use Rattle.kdtree.specs.Geometry.{byAxis, coord_of, box_dist_sq, next_axis, left_first, goes_left}
 use Rattle.kdtree.specs.Tree.{Tree, link_of, side_of, subtree}
 use Rattle.points.specs.Points.{point_at, dist_sq_of}
 use Rattle.kdtree.specs.declared.Slot.{Slot}
-use Rattle.kdtree.specs.declared.Slot.TheVariants.{Left, Right, None}
+use Rattle.kdtree.specs.declared.Slot.TheVariants.{Left, Right, Blocked}
 use Rattle.kdtree.specs.Insert.{side_slot, slot_in}
 use Rattle.kdtree.specs.Search.{search, improve, visited, farther, after_near, nearer_box, farther_box, Go}
 
@@ -130,12 +129,12 @@ module _ (left right : List ℕ) (xs : List Float) (count : ℕ) where
 
   module _ (q : Point3) where
     -- what follows the nearer side
-    abbrev pub rest : ℕ → ℕ → Bool → BoundingBox → ℕ → Best → Searched
+    abbrev pub rest : ℕ → ℕ → Bool → BoundingBox → ℕ → Best → Option Best
     rest k n g b axis t =
         farther q (side k n (far g n)) (search count q (side k n (far g n))) (farther_box g b axis (coord_of (point_at xs n) axis)) (next_axis axis)
         (improve n (dist_sq_of (point_at xs n) q) t)
 
-    abbrev pub deeper : ℕ → ℕ → Bool → BoundingBox → ℕ → Best → Searched
+    abbrev pub deeper : ℕ → ℕ → Bool → BoundingBox → ℕ → Best → Option Best
     deeper k n g b axis s =
         after_near (search count q (side k n (near g n)) (nearer_box g b axis (coord_of (point_at xs n) axis)) (next_axis axis) (visited s)) (rest k n g b axis)
 
@@ -146,28 +145,28 @@ module _ (left right : List ℕ) (xs : List Float) (count : ℕ) where
     step k n b axis s false e h = simp (e, lt-ltb _ _ h)
 
     -- the code's answer w at the node n, for every fuel that suffices
-    abbrev pub After : ℕ → BoundingBox → ℕ → Best → Searched → Type 0
+    abbrev pub After : ℕ → BoundingBox → ℕ → Best → Option Best → Type 0
     After n b axis s w = (f : ℕ) → count - n ≤ f → w ≡ search count q (T f n) b axis s
 
     -- no visit is left
-    pub full : (n : ℕ) (b : BoundingBox) (axis : ℕ) (s : Best) → n < count → count ≤ s.visits → After n b axis s Stopped
+    pub full : (n : ℕ) (b : BoundingBox) (axis : ℕ) (s : Best) → n < count → count ≤ s.visits → After n b axis s None
     unfolding search subtree
     full n b axis s h v zero le = absurd (omega arith)
     full n b axis s h v (suc k) le = simp (le-ltb _ _ v)
 
     -- a node with neither side: both sides are passed over
     pub leaf : (n : ℕ) (b : BoundingBox) (axis : ℕ) (s : Best) → n < count → s.visits < count → get_or left n 0 ≡ 65535 → get_or right n 0 ≡ 65535
-        → (d : Float) (u r : Best) → d ≡ dist_sq_of (point_at xs n) q → u ≡ visited s → r ≡ improve n d u → After n b axis s (Found r)
+        → (d : Float) (u r : Best) → d ≡ dist_sq_of (point_at xs n) q → u ≡ visited s → r ≡ improve n d u → After n b axis s (Some r)
     unfolding search side link_of side_of farther after_near
     leaf n b axis s h v el er d u r ed eu e zero le = absurd (omega arith)
     leaf n b axis s h v el er d u r ed eu e (suc k) le = sym (go (left_first q (point_at xs n) axis) refl)
       where
-        go : (g : Bool) → left_first q (point_at xs n) axis ≡ g → search count q (T (suc k) n) b axis s ≡ Found r
+        go : (g : Bool) → left_first q (point_at xs n) axis ≡ g → search count q (T (suc k) n) b axis s ≡ Some r
         go true eg = step k n b axis s true eg v ∙ simp (el, er) (cc)
         go false eg = step k n b axis s false eg v ∙ simp (el, er) (cc)
 
     farther_node : (k m : ℕ) (go : Go) (b : BoundingBox) (axis : ℕ) (s : Best) → m < count → count - m ≤ k
-        → farther q (T k m) go b axis s ≡ cond (lt (box_dist_sq b q) s.dist) (go b axis s) (Found s)
+        → farther q (T k m) go b axis s ≡ cond (lt (box_dist_sq b q) s.dist) (go b axis s) (Some s)
     unfolding subtree farther
     farther_node zero m go b axis s h le = absurd (omega arith)
     farther_node (suc k) m go b axis s h le = refl
@@ -185,28 +184,28 @@ module _ (left right : List ℕ) (xs : List Float) (count : ℕ) where
         pub en : nx ≡ next_axis axis
 
       module _ (h : Here) where
-        abbrev pub Near : Searched → Type 0
+        abbrev pub Near : Option Best → Type 0
         Near w = (k : ℕ) → count - suc n ≤ k
             → w ≡ search count q (side k n (near h.g n)) (nearer_box h.g b axis (coord_of (point_at xs n) axis)) (next_axis axis) (visited s)
 
         -- the farther side, t being the best after the node
-        abbrev pub Far : Best → Searched → Type 0
+        abbrev pub Far : Best → Option Best → Type 0
         Far t r = (k : ℕ) → count - suc n ≤ k
             → r ≡ farther q (side k n (far h.g n)) (search count q (side k n (far h.g n))) (farther_box h.g b axis (coord_of (point_at xs n) axis)) (next_axis axis) t
 
-        pub near_gone : (l : ℕ) (lk : Link) → l ≡ near h.g n → lk ≡ link_of count n l → lk ≡ Gone → Near (Found (visited s))
+        pub near_gone : (l : ℕ) (lk : Link) → l ≡ near h.g n → lk ≡ link_of count n l → lk ≡ Gone → Near (Some (visited s))
         unfolding search side side_of
         near_gone l lk el ek e k hk =
             let z : link_of count n (near h.g n) ≡ Gone = cc in
             rw z
 
-        pub near_bad : (l : ℕ) (lk : Link) → l ≡ near h.g n → lk ≡ link_of count n l → lk ≡ Bad → Near Stopped
+        pub near_bad : (l : ℕ) (lk : Link) → l ≡ near h.g n → lk ≡ link_of count n l → lk ≡ Bad → Near None
         unfolding search side side_of
         near_bad l lk el ek e k hk =
             let z : link_of count n (near h.g n) ≡ Bad = cc in
             rw z
 
-        pub near_to : (l m : ℕ) (lk : Link) (u : Best) (nb : BoundingBox) (r : Searched) → l ≡ near h.g n → lk ≡ link_of count n l → lk ≡ To m
+        pub near_to : (l m : ℕ) (lk : Link) (u : Best) (nb : BoundingBox) (r : Option Best) → l ≡ near h.g n → lk ≡ link_of count n l → lk ≡ To m
             → u ≡ visited s → nb ≡ nearer_box h.g b axis h.v → After m nb h.nx u r → Near r
         unfolding side side_of
         near_to l m lk u nb r el ek e eu eb after k hk =
@@ -216,53 +215,37 @@ module _ (left right : List ℕ) (xs : List Float) (count : ℕ) where
             let w : m ≡ near h.g n = i.is in
             rw z (cc)
 
-        stopped_near : Near Stopped → After n b axis s Stopped
+        pub stopped_near : Near None → After n b axis s None
         unfolding after_near
         stopped_near nr zero le = let i = h.below in absurd (omega arith)
         stopped_near nr (suc k) le =
             let i = h.below in
             let z : left_first q (point_at xs n) axis ≡ h.g = cc in
-            sym (step k n b axis s h.g z h.room ∙ ap (λ (y : Searched). after_near y (rest k n h.g b axis)) (sym (nr k (omega arith))))
+            sym (step k n b axis s h.g z h.room ∙ ap (λ (y : Option Best). after_near y (rest k n h.g b axis)) (sym (nr k (omega arith))))
 
-        found_near : (t : Best) (r : Searched) → Near (Found t) → Far (improve n (dist_sq_of (point_at xs n) q) t) r → After n b axis s r
+        found_near : (t : Best) (r : Option Best) → Near (Some t) → Far (improve n (dist_sq_of (point_at xs n) q) t) r → After n b axis s r
         unfolding after_near
         found_near t r nr fr zero le = let i = h.below in absurd (omega arith)
         found_near t r nr fr (suc k) le =
             let i = h.below in
             let z : left_first q (point_at xs n) axis ≡ h.g = cc in
-            fr k (omega arith) ∙ sym (step k n b axis s h.g z h.room ∙ ap (λ (y : Searched). after_near y (rest k n h.g b axis)) (sym (nr k (omega arith))))
+            fr k (omega arith) ∙ sym (step k n b axis s h.g z h.room ∙ ap (λ (y : Option Best). after_near y (rest k n h.g b axis)) (sym (nr k (omega arith))))
 
-        -- w is what the nearer side answered, d the node's distance, v what the node made of w
-        module _ (w : Searched) (d : Float) (v : Searched) (nr : Near w) (ed : d ≡ dist_sq_of (point_at xs n) q) (ew : v ≡ after_near w (λ t. Found (improve n d t))) where
-          pub stopped : v ≡ Stopped → After n b axis s Stopped
-          unfolding after_near
-          stopped e = go w nr (sym ew ∙ e)
-            where
-              go : (w : Searched) → Near w → after_near w (λ t. Found (improve n d t)) ≡ Stopped → After n b axis s Stopped
-              go (Found t) nr z = let y : ◌≡◌ {A = ℕ} 0 1 = cc in absurd (omega arith)
-              go Stopped nr z = stopped_near nr
-
-          pub went_on : (t : Best) (r : Searched) → v ≡ Found t → Far t r → After n b axis s r
-          unfolding after_near
-          went_on t r e fr = go w nr (sym ew ∙ e)
-            where
-              go : (w : Searched) → Near w → after_near w (λ t. Found (improve n d t)) ≡ Found t → After n b axis s r
-              go (Found u) nr z =
-                  let y : improve n (dist_sq_of (point_at xs n) q) u ≡ t = cc in
-                  found_near u r nr (λ k hk. fr k hk ∙ ap (λ (t : Best). farther q (side k n (far h.g n)) (search count q (side k n (far h.g n))) (farther_box h.g b axis (coord_of (point_at xs n) axis)) (next_axis axis) t) (sym y))
-              go Stopped nr z = let y : ◌≡◌ {A = ℕ} 0 1 = cc in absurd (omega arith)
+        -- t is what the nearer side found, d the node's distance, u the best after the node
+        module _ (t u : Best) (d : Float) (nr : Near (Some t)) (ed : d ≡ dist_sq_of (point_at xs n) q) (eu : u ≡ improve n d t) where
+          pub went_on : (r : Option Best) → Far u r → After n b axis s r
+          went_on r fr =
+              found_near t r nr
+              (λ k hk. fr k hk
+              ∙ ap (λ (t : Best). farther q (side k n (far h.g n)) (search count q (side k n (far h.g n))) (farther_box h.g b axis (coord_of (point_at xs n) axis)) (next_axis axis) t)
+              (eu ∙ ap (λ (d : Float). improve n d t) ed))
 
           -- no farther side: what the node made of the nearer side is the answer
-          pub one_sided : (l : ℕ) → l ≡ far h.g n → l ≡ 65535 → After n b axis s v
+          pub one_sided : (l : ℕ) → l ≡ far h.g n → l ≡ 65535 → After n b axis s (Some u)
           unfolding side link_of side_of farther
-          one_sided l el e = go v refl
-            where
-              gone_far : far h.g n ≡ 65535
-              gone_far = sym el ∙ e
-
-              go : (u : Searched) → v ≡ u → After n b axis s v
-              go (Found t) eu = went_on t v eu (λ k hk. eu ∙ simp (gone_far))
-              go Stopped eu = λ f hf. eu ∙ stopped eu f hf
+          one_sided l el e =
+              let z : far h.g n ≡ 65535 = sym el ∙ e in
+              went_on (Some u) (λ k hk. simp z)
 
         -- what the code knows past the farther side's link, t being the best after the node
         pub record There (t : Best) : Type 0 where
@@ -272,22 +255,22 @@ module _ (left right : List ℕ) (xs : List Float) (count : ℕ) where
           pub ek : lk ≡ link_of count n l
 
         module _ (t : Best) (k : There t) where
-          far_bad : k.lk ≡ Bad → Far t Stopped
+          far_bad : k.lk ≡ Bad → Far t None
           unfolding side side_of farther
           far_bad e f hf =
               let z : link_of count n (far h.g n) ≡ Bad = cc in
               rw z
 
           -- a farther side that is not absent and leads nowhere is bad
-          pub far_nowhere : (k.l ≡ 65535 → ⊥) → Nowhere k.lk → Far t Stopped
+          pub far_nowhere : (k.l ≡ 65535 → ⊥) → Nowhere k.lk → Far t None
           far_nowhere z w = go k.lk refl w
             where
-              go : (x : Link) → k.lk ≡ x → Nowhere x → Far t Stopped
+              go : (x : Link) → k.lk ≡ x → Nowhere x → Far t None
               go Gone ex w = absurd (z (gone_is count n k.l (sym k.ek ∙ ex)))
               go Bad ex w = far_bad ex
               go (To j) ex w = absurd (w j refl)
 
-          pub far_in : (m : ℕ) (fb : BoundingBox) (y : Bool) (r : Searched) → k.lk ≡ To m → fb ≡ farther_box h.g b axis h.v
+          pub far_in : (m : ℕ) (fb : BoundingBox) (y : Bool) (r : Option Best) → k.lk ≡ To m → fb ≡ farther_box h.g b axis h.v
               → y ≡ lt (box_dist_sq (farther_box h.g b axis h.v) q) t.dist → y ≡ true → After m fb h.nx t r → Far t r
           unfolding side side_of
           far_in m fb y r e ef ey less after f hf =
@@ -300,7 +283,7 @@ module _ (left right : List ℕ) (xs : List Float) (count : ℕ) where
               = farther_node f m (search count q (T f m)) fb h.nx t i.below (omega arith) ∙ rw lo in
               rw z (cc)
 
-          pub far_out : (m : ℕ) (y : Bool) → k.lk ≡ To m → y ≡ lt (box_dist_sq (farther_box h.g b axis h.v) q) t.dist → y ≡ false → Far t (Found t)
+          pub far_out : (m : ℕ) (y : Bool) → k.lk ≡ To m → y ≡ lt (box_dist_sq (farther_box h.g b axis h.v) q) t.dist → y ≡ false → Far t (Some t)
           unfolding side side_of
           far_out m y e ey less f hf =
               let z : link_of count n (far h.g n) ≡ To m = cc in
@@ -308,19 +291,19 @@ module _ (left right : List ℕ) (xs : List Float) (count : ℕ) where
               let w : m ≡ far h.g n = i.is in
               let fb = farther_box h.g b axis h.v in
               let lo : lt (box_dist_sq fb q) t.dist ≡ false = cc in
-              let z2 : farther q (T f m) (search count q (T f m)) fb h.nx t ≡ Found t
+              let z2 : farther q (T f m) (search count q (T f m)) fb h.nx t ≡ Some t
               = farther_node f m (search count q (T f m)) fb h.nx t i.below (omega arith) ∙ rw lo in
               rw z (cc)
 
         -- a node that has a side, and no farther one: a nearer link that leads nowhere is bad
         pub nowhere : (l l' : ℕ) (lk : Link) → l ≡ near h.g n → l' ≡ far h.g n → l' ≡ 65535 → lk ≡ link_of count n l → Nowhere lk
-            → eqb (get_or left n 0) 65535 && eqb (get_or right n 0) 65535 ≡ false → After n b axis s Stopped
+            → eqb (get_or left n 0) 65535 && eqb (get_or right n 0) 65535 ≡ false → After n b axis s None
         nowhere l l' lk el el' e ek w z = go lk refl w
           where
             none : near h.g n ≡ 65535 → far h.g n ≡ 65535 → ⊥
             none = both_gone h.g (get_or left n 0) (get_or right n 0) z
 
-            go : (x : Link) → lk ≡ x → Nowhere x → After n b axis s Stopped
+            go : (x : Link) → lk ≡ x → Nowhere x → After n b axis s None
             go Gone ex w = absurd (none (sym el ∙ gone_is count n l (sym ek ∙ ex)) (sym el' ∙ e))
             go Bad ex w = stopped_near (near_bad l lk el ek ex)
             go (To j) ex w = absurd (w j refl)
@@ -357,7 +340,7 @@ module _ (left right : List ℕ) (xs : List Float) (count : ℕ) where
       pub gone_right : lk ≡ Gone → g ≡ false → Slotted n axis (Right n)
       gone_right e u f le = sym (rw u) ∙ gone_at e f le
 
-      pub bad_at : lk ≡ Bad → Slotted n axis None
+      pub bad_at : lk ≡ Bad → Slotted n axis Blocked
       unfolding side side_of side_slot
       bad_at e zero le = absurd (omega arith)
       bad_at e (suc k) le =

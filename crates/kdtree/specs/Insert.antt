@@ -1,11 +1,11 @@
 -- An insertion into the lent lists: the whole effect of one call, refusals included.
-use Rattle.std.specs.Prelude.{ℕ, ◌+◌, ◌*◌, Bool, cond, ◌&&◌, List, length, set, eqb, ltb, Float}
+use Rattle.std.specs.Prelude.{ℕ, ◌+◌, ◌*◌, Bool, cond, ◌&&◌, List, length, set, eqb, ltb, Result, Ok, Err, Float}
 use Rattle.points.specs.declared.Point3.{Point3}
 use Rattle.kdtree.specs.declared.BoundingBox.{BoundingBox}
 use Rattle.kdtree.specs.declared.Slot.{Slot}
-use Rattle.kdtree.specs.declared.Slot.TheVariants.{Left, Right, None}
-use Rattle.kdtree.specs.declared.Inserted.{Inserted}
-use Rattle.kdtree.specs.declared.Inserted.TheVariants.{Done, Refused}
+use Rattle.kdtree.specs.declared.Slot.TheVariants.{Left, Right, Blocked}
+use Rattle.refusals.specs.declared.Refusal.{Refusal}
+use Rattle.refusals.specs.declared.Refusal.TheVariants.{ShortLists, BadLink}
 use Rattle.kdtree.specs.Geometry.{next_axis, goes_left, box_at, grown}
 use Rattle.kdtree.specs.Tree.{Tree, gone, bad, node, subtree}
 
@@ -21,10 +21,10 @@ lists_of xs l r n = record { positions = xs; left = l; right = r; numbers = n }
 
 -- what a call leaves: its answer and the lists
 pub record Stored : Type 0 where
-  pub out : Inserted
+  pub out : Result BoundingBox Refusal
   pub lists : Lists
 
-abbrev pub stored_as : Inserted → Lists → Stored
+abbrev pub stored_as : Result BoundingBox Refusal → Lists → Stored
 stored_as o a = record { out = o; lists = a }
 
 -- the tree of the first count places, links followed f times
@@ -35,13 +35,13 @@ tree_of a count f = subtree a.left a.right a.positions count f 0
 
 unfoldable pub side_slot : Tree → Slot → Slot → Slot
 side_slot gone here deeper = here
-side_slot bad here deeper = None
+side_slot bad here deeper = Blocked
 side_slot (node n x l r) here deeper = deeper
 
 module _ (p : Point3) where
   unfoldable pub slot_in : Tree → ℕ → Slot
-  slot_in gone axis = None
-  slot_in bad axis = None
+  slot_in gone axis = Blocked
+  slot_in bad axis = Blocked
   slot_in (node n x l r) axis =
       cond (goes_left p x axis) (side_slot l (Left n) (slot_in l (next_axis axis))) (side_slot r (Right n) (slot_in r (next_axis axis)))
 
@@ -56,11 +56,25 @@ written a c p number = record {
   numbers = set a.numbers c number;
 }
 
-unfoldable pub linked_left : Lists → ℕ → ℕ → Lists
-linked_left a o c = record { positions = a.positions; left = set a.left o c; right = a.right; numbers = a.numbers }
+-- the place whose side a slot is, or the root
+abbrev pub owner_of : Slot → ℕ
+owner_of (Left o) = o
+owner_of (Right o) = o
+owner_of Blocked = 0
 
-unfoldable pub linked_right : Lists → ℕ → ℕ → Lists
-linked_right a o c = record { positions = a.positions; left = a.left; right = set a.right o c; numbers = a.numbers }
+-- a slot leads to the place c now, if it is one: both lists of links
+unfoldable pub left_linked : Slot → ℕ → List ℕ → List ℕ
+left_linked (Left o) c l = set l o c
+left_linked (Right o) c l = l
+left_linked Blocked c l = l
+
+unfoldable pub right_linked : Slot → ℕ → List ℕ → List ℕ
+right_linked (Left o) c l = l
+right_linked (Right o) c l = set l o c
+right_linked Blocked c l = l
+
+unfoldable pub linked_at : Slot → ℕ → Lists → Lists
+linked_at s c a = record { positions = a.positions; left = left_linked s c a.left; right = right_linked s c a.right; numbers = a.numbers }
 
 -- ---- the call
 
@@ -71,21 +85,21 @@ room_for c positions left right numbers = ltb c 16384 && (ltb (3 * c + 2) positi
 abbrev pub has_room : Lists → ℕ → Bool
 has_room a c = room_for c (length a.positions) (length a.left) (length a.right) (length a.numbers)
 
--- document 01's numbers, place 0; nothing is written
+-- nothing is written
 abbrev pub no_room : Lists → Stored
-no_room a = record { out = Refused 3 0; lists = a }
+no_room a = record { out = Err ShortLists; lists = a }
 
 abbrev pub bad_link : Lists → Stored
-bad_link a = record { out = Refused 9 0; lists = a }
+bad_link a = record { out = Err BadLink; lists = a }
 
 unfoldable pub by_slot : Slot → Lists → ℕ → BoundingBox → Point3 → ℕ → Stored
-by_slot (Left o) a c b p number = record { out = Done (grown b p); lists = written (linked_left a o c) c p number }
-by_slot (Right o) a c b p number = record { out = Done (grown b p); lists = written (linked_right a o c) c p number }
-by_slot None a c b p number = bad_link a
+by_slot (Left o) a c b p number = record { out = Ok (grown b p); lists = written (linked_at (Left o) c a) c p number }
+by_slot (Right o) a c b p number = record { out = Ok (grown b p); lists = written (linked_at (Right o) c a) c p number }
+by_slot Blocked a c b p number = bad_link a
 
 unfoldable pub insert_of : Lists → ℕ → BoundingBox → Point3 → ℕ → Stored
 insert_of a c b p number =
-    let first : Stored = record { out = Done (box_at p); lists = written a c p number } in
+    let first : Stored = record { out = Ok (box_at p); lists = written a c p number } in
     let later = by_slot (slot_in p (tree_of a c c) 0) a c b p number in
     let r = cond (eqb c 0) first later in
     cond (has_room a c) r (no_room a)

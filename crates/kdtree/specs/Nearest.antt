@@ -1,13 +1,11 @@
 -- The bare tree's nearest: the whole answer of one call, refusals included.
-use Rattle.std.specs.Prelude.{ℕ, ◌*◌, Bool, cond, ◌&&◌, List, length, get_or, eqb, leb, Float}
+use Rattle.std.specs.Prelude.{ℕ, ◌*◌, Bool, cond, ◌&&◌, List, length, get_or, eqb, leb, Option, Some, None, Result, Ok, Err, Float}
 use Rattle.points.specs.declared.Point3.{Point3}
 use Rattle.points.specs.Points.{point_at, dist_sq_of}
 use Rattle.kdtree.specs.declared.BoundingBox.{BoundingBox}
 use Rattle.kdtree.specs.declared.Best.{Best}
-use Rattle.kdtree.specs.declared.Searched.{Searched}
-use Rattle.kdtree.specs.declared.Searched.TheVariants.{Found, Stopped}
-use Rattle.kdtree.specs.declared.Named.{Named}
-use Rattle.kdtree.specs.declared.Named.TheVariants.{Nothing, Number, Refused}
+use Rattle.refusals.specs.declared.Refusal.{Refusal}
+use Rattle.refusals.specs.declared.Refusal.TheVariants.{ShortLists, BadLink}
 use Rattle.kdtree.specs.Tree.{subtree}
 use Rattle.kdtree.specs.Search.{search}
 use Rattle.kdtree.specs.Insert.{Lists}
@@ -17,14 +15,14 @@ unfoldable pub start_at : List Float → ℕ → Point3 → Best
 start_at positions root q = record { place = root; dist = dist_sq_of (point_at positions root) q; visits = 0 }
 
 -- the place found below a root, among count places
-unfoldable pub found_from : List Float → List ℕ → List ℕ → ℕ → ℕ → BoundingBox → Point3 → Searched
+unfoldable pub found_from : List Float → List ℕ → List ℕ → ℕ → ℕ → BoundingBox → Point3 → Option Best
 found_from positions left right c root b q = search c q (subtree left right positions c c root) b 0 (start_at positions root q)
 
 -- the root of a tree that inserts filled is place 0
 abbrev pub start_at_root : List Float → Point3 → Best
 start_at_root positions q = start_at positions 0 q
 
-abbrev pub place_found : List Float → List ℕ → List ℕ → ℕ → BoundingBox → Point3 → Searched
+abbrev pub place_found : List Float → List ℕ → List ℕ → ℕ → BoundingBox → Point3 → Option Best
 place_found positions left right c b q = found_from positions left right c 0 b q
 
 -- no list is shorter than the count asks, and at most 16384 are in
@@ -34,13 +32,13 @@ lengths_for c positions left right numbers = leb c 16384 && (leb (3 * c) positio
 abbrev pub readable : Lists → ℕ → Bool
 readable a c = lengths_for c (length a.positions) (length a.left) (length a.right) (length a.numbers)
 
--- the number kept with the place found; document 01's number 9, place 0, for a search that stopped
-unfoldable pub number_of : List ℕ → Searched → Named
-number_of numbers (Found s) = Number (get_or numbers s.place 0)
-number_of numbers Stopped = Refused 9 0
+-- the number kept with the place found, or the refusal of a search that stopped
+unfoldable pub number_of : List ℕ → Option Best → Result (Option ℕ) Refusal
+number_of numbers (Some s) = Ok (Some (get_or numbers s.place 0))
+number_of numbers None = Err BadLink
 
-unfoldable pub nearest_of : Lists → ℕ → BoundingBox → Point3 → Named
+unfoldable pub nearest_of : Lists → ℕ → BoundingBox → Point3 → Result (Option ℕ) Refusal
 nearest_of a c b q =
     let found = number_of a.numbers (place_found a.positions a.left a.right c b q) in
-    let r = cond (eqb c 0) Nothing found in
-    cond (readable a c) r (Refused 3 0)
+    let r = cond (eqb c 0) (Ok None) found in
+    cond (readable a c) r (Err ShortLists)

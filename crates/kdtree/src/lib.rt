@@ -11,19 +11,22 @@
 ghost use Rattle.std.specs.Prelude.{◌≡◌, cond, ℕ, ◌+◌, ◌-◌, ◌*◌, ◌<◌, ◌≤◌, length};
 ghost use Rattle.kdtree.specs.Geometry.{byAxis, coord_of, next_axis, Firm, outside, box_dist_sq, box_at, lower, upper, grown, min_at, max_at, corner_of, with_min, with_max, goes_left};
 ghost use Rattle.kdtree.specs.Tree.{TreeHolds, link_of, subtree};
-ghost use Rattle.kdtree.specs.Search.{search, improve, visited, after_near, nearer_box, farther_box};
-ghost use Rattle.kdtree.specs.declared.Searched.TheVariants.{Found};
+ghost use Rattle.kdtree.specs.Search.{search, improve, visited, nearer_box, farther_box};
 ghost use Rattle.points.specs.Points.{point_at, dist_sq_of};
 ghost use Rattle.floats.specs.Floats.{zero32};
 ghost use Rattle.std.specs.Float.{binary32};
 ghost use Rattle.std.specs.Float.Ieee.{sub, lt, le};
-ghost use Rattle.kdtree.specs.Insert.{lists_of, stored_as, slot_in, written, room_for, insert_of};
+ghost use Rattle.kdtree.specs.Insert.{lists_of, stored_as, slot_in, owner_of, left_linked, right_linked, written, room_for, insert_of};
 ghost use Rattle.kdtree.specs.Nearest.{found_from, lengths_for, nearest_of};
 
 use points::Point3;
+use refusals::Refusal;
 
 // ---- coordinates and distances
 
+// An axis is a number: `coord`, `next_axis`, `side` answer for every u8, and an enum would ask more of callers.
+// It is an index too, where a `match` would jump: so `axis < 3` is asked where a list is read by it.
+#[tactic(auto, unfolding(crate::specs::Geometry::coord_of, crate::specs::Geometry::byAxis))]
 pub fn coord(p: Point3, axis: u8) -> f32
     ensures { result ≡ coord_of p axis }
 {
@@ -66,26 +69,29 @@ pub struct BoundingBox {
     pub max_z: f32,
 }
 
+// The box grows by strict comparison: a NaN corner stays, where `floats::min` and `floats::max` would take the other.
 fn least(m: f32, v: f32) -> f32
     ensures { result ≡ lower m v }
 {
     if v < m { v } else { m }
 }
 
+// Beside `least`: one function of both would take a flag for one sign.
 fn most(m: f32, v: f32) -> f32
     ensures { result ≡ upper m v }
 {
     if v > m { v } else { m }
 }
 
-// A selection: nothing jumps.
-fn choose(first: bool, a: f32, b: f32) -> f32
+// A selection: of numbers nothing jumps.
+pub fn choose<T: Copy>(first: bool, a: T, b: T) -> T
     ensures { result ≡ cond first a b }
 {
     if first { a } else { b }
 }
 
 // Where the coordinate of an axis stands among three.
+#[tactic(auto, unfolding(crate::specs::Geometry::byAxis))]
 fn index_of(axis: u8) -> usize
     ensures { result ≡ byAxis axis 0 1 2 }
 {
@@ -93,6 +99,8 @@ fn index_of(axis: u8) -> usize
 }
 
 // Which corner coordinate the plane of a node replaces, from 0 to 5: the least x, y, z, then the greatest.
+// A number, since it is worked out by adding and then compared: a match on an enum would jump.
+#[tactic(auto, unfolding(crate::specs::Geometry::corner_of))]
 fn corner(axis: u8, left: bool) -> u32
     ensures { result ≡ corner_of axis left }
 {
@@ -101,6 +109,7 @@ fn corner(axis: u8, left: bool) -> u32
 }
 
 impl BoundingBox {
+    #[tactic(auto, unfolding(crate::specs::Geometry::box_at))]
     pub fn new(p: Point3) -> Self
         ensures { result ≡ box_at p }
     {
@@ -114,6 +123,7 @@ impl BoundingBox {
         }
     }
 
+    #[tactic(auto, unfolding(crate::specs::Geometry::grown))]
     pub fn extend(self, p: Point3) -> Self
         ensures { result ≡ grown self p }
     {
@@ -136,6 +146,7 @@ impl BoundingBox {
         corners[at]
     }
 
+    // Beside `min_at`: it reads three fields of its own, and a flag to choose them by would be one test more.
     pub fn max_at(self, axis: u8) -> f32
         ensures { result ≡ max_at self axis }
     {
@@ -146,7 +157,7 @@ impl BoundingBox {
 
     // The box of a node's left or right side, v being the node's coordinate on the axis: one corner coordinate is replaced, the
     // greatest or the least. Which one is selected and not jumped to: no processor guesses it.
-    fn side(self, axis: u8, v: f32, left: bool) -> Self
+    pub fn side(self, axis: u8, v: f32, left: bool) -> Self
         ensures { result ≡ cond left (with_max self axis v) (with_min self axis v) }
     {
         let k = corner(axis, left);
@@ -160,21 +171,8 @@ impl BoundingBox {
         }
     }
 
-    // One lower corner coordinate replaced.
-    pub fn with_min(self, axis: u8, v: f32) -> Self
-        ensures { result ≡ with_min self axis v }
-    {
-        self.side(axis, v, false)
-    }
-
-    // One upper corner coordinate replaced.
-    pub fn with_max(self, axis: u8, v: f32) -> Self
-        ensures { result ≡ with_max self axis v }
-    {
-        self.side(axis, v, true)
-    }
-
     // The squared distance from a point to the box: +0 inside.
+    #[tactic(auto, unfolding(crate::specs::Geometry::box_dist_sq))]
     fn dist_sq(self, q: Point3) -> f32
         ensures { result ≡ box_dist_sq self q }
     {
@@ -184,12 +182,15 @@ impl BoundingBox {
     }
 }
 
+// Two names, and four values one by one: document 01 wants the altered box passed by value, made anew for each side.
+#[tactic(auto, unfolding(crate::specs::Search::nearer_box))]
 fn nearer_box(rect: BoundingBox, axis: u8, v: f32, go_left: bool) -> BoundingBox
     ensures { result ≡ nearer_box go_left rect axis v }
 {
     rect.side(axis, v, go_left)
 }
 
+#[tactic(auto, unfolding(crate::specs::Search::farther_box))]
 fn farther_box(rect: BoundingBox, axis: u8, v: f32, go_left: bool) -> BoundingBox
     ensures { result ≡ farther_box go_left rect axis v }
 {
@@ -199,6 +200,7 @@ fn farther_box(rect: BoundingBox, axis: u8, v: f32, go_left: bool) -> BoundingBo
 // ---- links
 
 // What a link says.
+// Three named outcomes, so neither an `Option` nor a `Result`.
 #[derive(Clone, Copy)]
 pub enum Link {
     Gone,
@@ -207,6 +209,8 @@ pub enum Link {
 }
 
 // Good is a link above its owner and below the count.
+// The lent lists mark an absent link by 65535, as the C interface has it: here that becomes a case.
+#[tactic(auto, unfolding(crate::specs::Tree::link_of))]
 pub fn link_of(count: usize, owner: usize, l: u16) -> Link
     ensures { result ≡ link_of count owner l }
 {
@@ -223,11 +227,19 @@ pub fn link_of(count: usize, owner: usize, l: u16) -> Link
     Link::Bad
 }
 
-// The link of the one side or of the other.
-pub fn either(first: bool, a: u16, b: u16) -> u16
-    ensures { result ≡ cond first a b }
-{
-    if first { a } else { b }
+// ---- the tree
+
+// Places 0 to count - 1, as they are lent: coordinates in a row, and both links of each place.
+// Three lists and a count: the C interface lends them so, and no memory is taken for nodes.
+// That a place is below the count is asked at each read, as of any index.
+#[derive(Clone, Copy)]
+pub struct Tree<'a> {
+    pub count: usize,
+    pub positions: &'a [f32],
+    pub left: &'a [u16],
+    pub right: &'a [u16],
+    // No list is shorter than the count asks, and at most 16384 are in.
+    pub ghost holds: { TreeHolds count positions.now left.now right.now },
 }
 
 // ---- the search
@@ -240,24 +252,7 @@ pub struct Best {
     pub visits: u16,
 }
 
-// A search stops at a bad link, when it comes to that side, and where visit count + 1 would begin.
-#[derive(Clone, Copy)]
-pub enum Searched {
-    Found(Best),
-    Stopped,
-}
-
 // The query stands in an array: a level of the search keeps one address of it, and reads a coordinate by the axis.
-fn query_point(q: &[f32; 3]) -> Point3
-    ensures { result ≡ point_at q.now 0 }
-{
-    Point3 {
-        x: q[0],
-        y: q[1],
-        z: q[2],
-    }
-}
-
 fn query_coord(q: &[f32; 3], axis: u8) -> f32
     requires { axis < 3 }
     ensures { result ≡ coord_of (point_at q.now 0) axis }
@@ -266,23 +261,23 @@ fn query_coord(q: &[f32; 3], axis: u8) -> f32
     q[at]
 }
 
-// One coordinate of a place, by the axis.
-fn place_coord(xs: &&[f32], place: usize, axis: u8) -> f32
-    requires { (axis < 3)
-        × (place < 16384)
-        × (3 * place + 2 < length xs.now.now) }
-    ensures { result ≡ coord_of (point_at xs.now.now place) axis }
-{
-    let at = 3 * place + axis as usize;
-    xs[at]
-}
+impl Tree<'_> {
+    // One coordinate of a place, by the axis.
+    fn coord_at(&self, place: usize, axis: u8) -> f32
+        requires { (place < self.now.count) × (axis < 3) }
+        ensures { result ≡ coord_of (point_at self.now.positions.now place) axis }
+    {
+        let at = 3 * place + axis as usize;
+        self.positions[at]
+    }
 
-// From a place to the query.
-fn dist_at(xs: &&[f32], place: usize, q: &[f32; 3]) -> f32
-    requires { 3 * place + 2 < length xs.now.now }
-    ensures { result ≡ dist_sq_of (point_at xs.now.now place) (point_at q.now 0) }
-{
-    points::dist_sq(points::point_at(*xs, place), query_point(q))
+    // From a place to the query.
+    fn dist_at(&self, place: usize, q: &[f32; 3]) -> f32
+        requires { place < self.now.count }
+        ensures { result ≡ dist_sq_of (point_at self.now.positions.now place) (point_at q.now 0) }
+    {
+        points::dist_sq(points::point_at(self.positions, place), Point3::from(*q))
+    }
 }
 
 // Query minus node, on the node's axis.
@@ -292,18 +287,19 @@ fn left_first(q: f32, v: f32) -> bool
     q - v <= 0.0
 }
 
+#[tactic(auto, unfolding(crate::specs::Search::visited))]
 fn visited(best: Best) -> Best
     requires { best.visits < 65535 }
     ensures { result ≡ visited best }
 {
     Best {
-        dist: best.dist,
-        place: best.place,
         visits: best.visits + 1,
+        ..best
     }
 }
 
 // The node wins only if it is strictly nearer.
+#[tactic(auto, unfolding(crate::specs::Search::improve))]
 fn better(n: u16, d: f32, best: Best) -> Best
     ensures { result ≡ improve n d best }
 {
@@ -311,7 +307,7 @@ fn better(n: u16, d: f32, best: Best) -> Best
         Best {
             dist: d,
             place: n,
-            visits: best.visits,
+            ..best
         }
     } else {
         best
@@ -338,123 +334,89 @@ fn far_is_nearer(
         return false;
     }
     let far = farther_box(rect, axis, v, go_left);
-    far.dist_sq(query_point(q)) < dist
+    far.dist_sq(Point3::from(*q)) < dist
 }
 
-// The node after its nearer side, unless that stopped.
-fn then_node(s: Searched, n: u16, d: f32) -> Searched
-    ensures { result ≡ after_near s (λ t. Found (improve n d t)) }
-{
-    match s {
-        Searched::Found(t) => Searched::Found(better(n, d, t)),
-        Searched::Stopped => Searched::Stopped,
-    }
-}
-
-// Nearer side, node, farther side.
+// Nearer side, node, farther side. It stops at a bad link, when it comes to that side, and where visit count + 1 would begin.
 //
-// Lists stand behind one address each, so that a level hands on few words. Both links are read before the side is known, so that the
-// next node need not wait for a second read. A node without sides is done at once, and one without a farther side has a way of its own:
-// nothing but the node's distance is kept while its nearer side is searched. An answer of the farther side leaves by a way of its own
-// too (`last`): one that is put together from its parts in memory and read at once as a whole is slow.
+// The tree and the query stand behind one address each, so that a level hands on few words. Both links are read before the side is
+// known, so that the next node need not wait for a second read. A node without sides is done at once, and one without a farther side
+// has a way of its own: nothing but the node's distance is kept while its nearer side is searched. An answer of the farther side leaves
+// by a way of its own too (`last`): one that is put together from its parts in memory and read at once as a whole is slow.
 fn nearest_rec(
-    xs: &&[f32],
-    left: &&[u16],
-    right: &&[u16],
-    m: usize,
+    tree: &Tree,
     q: &[f32; 3],
     rect: BoundingBox,
     node: usize,
     axis: u8,
     best: Best,
-) -> Searched
-    requires { (node < m)
-        × TreeHolds m xs.now.now left.now.now right.now.now
-        × (axis < 3) }
-    ensures { (f : ℕ) → m - node ≤ f
-        → result ≡ search m (point_at q.now 0) (subtree left.now.now right.now.now xs.now.now m f node) rect axis best }
+) -> Option<Best>
+    requires { (node < tree.now.count) × (axis < 3) }
+    ensures { (f : ℕ) → tree.now.count - node ≤ f
+        → result
+        ≡ search tree.now.count (point_at q.now 0) (subtree tree.now.left.now tree.now.right.now tree.now.positions.now tree.now.count f node) rect axis best }
 {
-    if m <= best.visits as usize {
-        return Searched::Stopped;
+    if tree.count <= best.visits as usize {
+        return None;
     }
-    let l = left[node];
-    let r = right[node];
-    let d = dist_at(xs, node, q);
+    let l = tree.left[node];
+    let r = tree.right[node];
+    let d = tree.dist_at(node, q);
     let seen = visited(best);
     if (l == 65535) & (r == 65535) {
-        return Searched::Found(better(node as u16, d, seen));
+        return Some(better(node as u16, d, seen));
     }
-    let v = place_coord(xs, node, axis);
+    let v = tree.coord_at(node, axis);
     let go_left = left_first(query_coord(q, axis), v);
     let next = next_axis(axis);
-    let nearer = either(go_left, l, r);
-    let farther = either(go_left, r, l);
+    let nearer = choose(go_left, l, r);
+    let farther = choose(go_left, r, l);
     if farther == 65535 {
-        let Link::To(n) = link_of(m, node, nearer) else {
-            return Searched::Stopped;
+        let Link::To(n) = link_of(tree.count, node, nearer) else {
+            return None;
         };
         let near = nearer_box(rect, axis, v, go_left);
-        let only = nearest_rec(xs, left, right, m, q, near, n, next, seen);
-        return then_node(only, node as u16, d);
+        let only = nearest_rec(tree, q, near, n, next, seen)?;
+        return Some(better(node as u16, d, only));
     }
-    let after = match link_of(m, node, nearer) {
-        Link::Gone => Searched::Found(seen),
+    let after = match link_of(tree.count, node, nearer) {
+        Link::Gone => seen,
         Link::To(n) => {
             let near = nearer_box(rect, axis, v, go_left);
-            nearest_rec(xs, left, right, m, q, near, n, next, seen)
+            nearest_rec(tree, q, near, n, next, seen)?
         }
-        Link::Bad => Searched::Stopped,
+        Link::Bad => return None,
     };
-    let Searched::Found(b) = then_node(after, node as u16, d) else {
-        return Searched::Stopped;
-    };
-    let Link::To(n) = link_of(m, node, farther) else {
-        return Searched::Stopped;
+    let b = better(node as u16, d, after);
+    let Link::To(n) = link_of(tree.count, node, farther) else {
+        return None;
     };
     if !far_is_nearer(rect, axis, v, go_left, q, b.dist) {
-        return Searched::Found(b);
+        return Some(b);
     }
     let far = farther_box(rect, axis, v, go_left);
-    let last = nearest_rec(xs, left, right, m, q, far, n, next, b);
+    let last = nearest_rec(tree, q, far, n, next, b);
     last
 }
 
 // The place nearest to the query, among those below the root: the search begins with the root as best.
-pub fn nearest_place(
-    count: usize,
-    root: usize,
-    bounds: BoundingBox,
-    positions: &[f32],
-    left: &[u16],
-    right: &[u16],
-    q: Point3,
-) -> Searched
-    requires { (root < count)
-        × TreeHolds count positions.now left.now right.now }
-    ensures { result ≡ found_from positions.now left.now right.now count root bounds q }
+pub fn nearest_place(tree: &Tree, root: usize, bounds: BoundingBox, q: Point3) -> Option<Best>
+    requires { root < tree.now.count }
+    ensures { result ≡ found_from tree.now.positions.now tree.now.left.now tree.now.right.now tree.now.count root bounds q }
 {
-    let dist = points::dist_sq(points::point_at(positions, root), q);
+    let dist = points::dist_sq(points::point_at(tree.positions, root), q);
     let place = root as u16;
     let start = Best {
         dist,
         place,
         visits: 0,
     };
-    let at = [q.x, q.y, q.z];
-    nearest_rec(
-        &positions, &left, &right, count, &at, bounds, root, 0, start,
-    )
-}
-
-#[derive(Clone, Copy)]
-pub enum Named {
-    Nothing,
-    Number(u16),
-    // Document 01's number, and the place.
-    Refused(u32, usize),
+    let at = q.into();
+    nearest_rec(tree, &at, bounds, root, 0, start)
 }
 
 // No list is shorter than the count asks, and at most 16384 are in.
+// Lengths one by one: they are judged before there can be a `Tree`.
 fn long_enough(count: usize, positions: usize, left: usize, right: usize, numbers: usize) -> bool
     ensures { result ≡ lengths_for count positions left right numbers }
 {
@@ -464,7 +426,8 @@ fn long_enough(count: usize, positions: usize, left: usize, right: usize, number
     (3 * count <= positions) & ((count <= left) & ((count <= right) & (count <= numbers)))
 }
 
-// The number of the nearest place of the bare tree.
+// The number of the nearest place of the bare tree, none of an empty one.
+// Lists one by one, as the C interface lends them: this asks nothing of its caller, and a `Tree` would.
 pub fn nearest(
     count: usize,
     bounds: BoundingBox,
@@ -473,7 +436,7 @@ pub fn nearest(
     right: &[u16],
     numbers: &[u16],
     q: Point3,
-) -> Named
+) -> Result<Option<u16>, Refusal>
     ensures { result ≡ nearest_of (lists_of positions.now left.now right.now numbers.now) count bounds q }
 {
     if !long_enough(
@@ -483,29 +446,54 @@ pub fn nearest(
         right.len(),
         numbers.len(),
     ) {
-        return Named::Refused(3, 0);
+        return Err(Refusal::ShortLists);
     }
     if count == 0 {
-        return Named::Nothing;
+        return Ok(None);
     }
-    let searched = nearest_place(count, 0, bounds, positions, left, right, q);
-    let Searched::Found(best) = searched else {
-        return Named::Refused(9, 0);
+    let tree = Tree {
+        count,
+        positions,
+        left,
+        right,
+    };
+    let Some(best) = nearest_place(&tree, 0, bounds, q) else {
+        return Err(Refusal::BadLink);
     };
     let place = best.place as usize;
-    Named::Number(numbers[place])
+    Ok(Some(numbers[place]))
 }
 
 // ---- insertion
 
-// Where a new node goes: the absent left or right side of an owner, or nowhere where a bad link is met.
+// Where a new node goes: the absent left or right side of an owner, or nowhere where a bad link is met. Measured: as an `Option` of two
+// cases it is handed up through memory, level by level, and an insert takes a tenth longer.
 #[derive(Clone, Copy)]
 pub enum Slot {
     Left(usize),
     Right(usize),
-    None,
+    Blocked,
 }
 
+impl Slot {
+    // The side, if there is one, leads to the place n now.
+    #[tactic(auto, unfolding(crate::specs::Insert::left_linked, crate::specs::Insert::right_linked))]
+    pub fn link(self, left: &mut [u16], right: &mut [u16], n: usize)
+        requires { (owner_of self < length left.old)
+            × (owner_of self < length right.old)
+            × (n < 16384) }
+        ensures left { left.new ≡ left_linked self n left.old }
+        ensures right { right.new ≡ right_linked self n right.old }
+    {
+        match self {
+            Slot::Left(o) => left[o] = n as u16,
+            Slot::Right(o) => right[o] = n as u16,
+            Slot::Blocked => {}
+        }
+    }
+}
+
+#[tactic(auto, unfolding(crate::specs::Geometry::goes_left))]
 fn goes_left(p: Point3, x: Point3, axis: u8) -> bool
     ensures { result ≡ goes_left p x axis }
 {
@@ -513,26 +501,18 @@ fn goes_left(p: Point3, x: Point3, axis: u8) -> bool
 }
 
 // Strictly less than the node's coordinate goes left, otherwise right. It only reads: the writes follow.
-pub fn insert_rec(
-    positions: &[f32],
-    left: &[u16],
-    right: &[u16],
-    count: usize,
-    p: Point3,
-    node: usize,
-    axis: u8,
-) -> Slot
-    requires { (node < count)
-        × TreeHolds count positions.now left.now right.now }
-    ensures { (f : ℕ) → count - node ≤ f
-        → result ≡ slot_in p (subtree left.now right.now positions.now count f node) axis }
+pub fn insert_rec(tree: &Tree, p: &Point3, node: usize, axis: u8) -> Slot
+    requires { node < tree.now.count }
+    ensures { (f : ℕ) → tree.now.count - node ≤ f
+        → result
+        ≡ slot_in p.now (subtree tree.now.left.now tree.now.right.now tree.now.positions.now tree.now.count f node) axis }
 {
-    let x = points::point_at(positions, node);
-    let less = goes_left(p, x, axis);
+    let x = points::point_at(tree.positions, node);
+    let less = goes_left(*p, x, axis);
     let next = next_axis(axis);
-    let l = left[node];
-    let r = right[node];
-    match link_of(count, node, either(less, l, r)) {
+    let l = tree.left[node];
+    let r = tree.right[node];
+    match link_of(tree.count, node, choose(less, l, r)) {
         Link::Gone => {
             if less {
                 Slot::Left(node)
@@ -540,16 +520,9 @@ pub fn insert_rec(
                 Slot::Right(node)
             }
         }
-        Link::Bad => Slot::None,
-        Link::To(n) => insert_rec(positions, left, right, count, p, n, next),
+        Link::Bad => Slot::Blocked,
+        Link::To(n) => insert_rec(tree, p, n, next),
     }
-}
-
-#[derive(Clone, Copy)]
-pub enum Inserted {
-    Done(BoundingBox),
-    // Document 01's number, and the place.
-    Refused(u32, usize),
 }
 
 // Each list has room for one more, and fewer than 16384 are in.
@@ -559,10 +532,12 @@ fn has_room(count: usize, positions: usize, left: usize, right: usize, numbers: 
     if 16384 <= count {
         return false;
     }
-    (3 * count + 2 < positions) & ((count < left) & ((count < right) & (count < numbers)))
+    long_enough(count + 1, positions, left, right, numbers)
 }
 
 // Writes the new node's own cells.
+// Lists one by one: a `Tree` only lends them, and here they are written.
+#[tactic(auto, unfolding(crate::specs::Insert::written))]
 fn write_node(
     positions: &mut [f32],
     left: &mut [u16],
@@ -588,7 +563,7 @@ fn write_node(
     numbers[count] = number;
 }
 
-// Takes the next place: 3 before 9, and nothing is written then.
+// Takes the next place, and answers the box with it: short lists before a bad link, and nothing is written then.
 pub fn insert(
     count: usize,
     bounds: BoundingBox,
@@ -598,7 +573,7 @@ pub fn insert(
     numbers: &mut [u16],
     p: Point3,
     number: u16,
-) -> Inserted
+) -> Result<BoundingBox, Refusal>
     ensures { stored_as result (lists_of positions.new left.new right.new numbers.new)
         ≡ insert_of (lists_of positions.old left.old right.old numbers.old) count bounds p number }
 {
@@ -609,23 +584,23 @@ pub fn insert(
         right.len(),
         numbers.len(),
     ) {
-        return Inserted::Refused(3, 0);
+        return Err(Refusal::ShortLists);
     }
     if count == 0 {
         write_node(positions, left, right, numbers, count, p, number);
-        return Inserted::Done(BoundingBox::new(p));
+        return Ok(BoundingBox::new(p));
     }
-    match insert_rec(positions, left, right, count, p, 0, 0) {
-        Slot::Left(o) => {
-            left[o] = count as u16;
-            write_node(positions, left, right, numbers, count, p, number);
-            Inserted::Done(bounds.extend(p))
-        }
-        Slot::Right(o) => {
-            right[o] = count as u16;
-            write_node(positions, left, right, numbers, count, p, number);
-            Inserted::Done(bounds.extend(p))
-        }
-        Slot::None => Inserted::Refused(9, 0),
+    let tree = Tree {
+        count,
+        positions,
+        left,
+        right,
+    };
+    let slot = insert_rec(&tree, &p, 0, 0);
+    if let Slot::Blocked = slot {
+        return Err(Refusal::BadLink);
     }
+    slot.link(left, right, count);
+    write_node(positions, left, right, numbers, count, p, number);
+    Ok(bounds.extend(p))
 }

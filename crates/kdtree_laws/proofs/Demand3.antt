@@ -9,15 +9,13 @@ use lib.ListN.{length, get_or}
 use lib.Dec.{T, T_not}
 use lib.Ieee.{Float, lt}
 use borrow.Author.Tests.{le-leb}
+use Rattle.std.proofs.Common.{Option, Some, None, Ok}
 use Rattle.points.specs.declared.Point3.{Point3}
 use Rattle.points.specs.Points.{point_at, dist_sq_of, Finite}
 use Rattle.floats.proofs.Cross.{of_taken, of_left}
 use Rattle.floats.proofs.Preorder.{number, nan_lt, lt→le, le→not_lt, lt_irrefl_f}
 use Rattle.kdtree.specs.declared.BoundingBox.{BoundingBox}
 use Rattle.kdtree.specs.declared.Best.{Best}
-use Rattle.kdtree.specs.declared.Searched.{Searched}
-use Rattle.kdtree.specs.declared.Searched.TheVariants.{Found, Stopped}
-use Rattle.kdtree.specs.declared.Named.TheVariants.{Nothing, Number}
 use Rattle.kdtree.specs.Tree.{Tree, gone, bad, node}
 use Rattle.kdtree.specs.Search.{search}
 use Rattle.kdtree.specs.Unpruned.{Pick, pick_of, Item, walk, order, size}
@@ -186,19 +184,19 @@ module _ (a : Lists) (q : Point3) (items : List Item) (points : Each (λ (i : It
       go (inl e) h = subst NamedBy (sym e) (root_named (subst (λ (k : Pick). Each (λ (i : Item). lt (dist_of q i) k.dist ≡ false) items) e h))
       go (inr n) h = subst NamedBy (sym n.is) (item_named n (subst (λ (k : Pick). Each (λ (i : Item). lt (dist_of q i) k.dist ≡ false) items) n.is h))
 
-agrees_number : (numbers : List ℕ) (k : Pick) (v : ℕ) (w : Searched) → Agrees k v w → number_of numbers w ≡ Number (get_or numbers k.place 0)
+agrees_number : (numbers : List ℕ) (k : Pick) (v : ℕ) (w : Option Best) → Agrees k v w → number_of numbers w ≡ Ok (Some (get_or numbers k.place 0))
 unfolding number_of pick_of
-agrees_number numbers k v (Found r) a = ap (λ (k : Pick). Number (get_or numbers k.place 0)) a.0
-agrees_number numbers k v Stopped a = absurd a
+agrees_number numbers k v (Some r) a = ap (λ (k : Pick). Ok (Some (get_or numbers k.place 0))) a.0
+agrees_number numbers k v None a = absurd a
 
 pub record Visits (t : Bare) (q : Point3) : Type 0 where
   pub best : Best
-  pub is : search_in t q ≡ Found best
+  pub is : search_in t q ≡ Some best
   pub bounded : best.visits ≤ t.count
 
-agrees_visits : (t : Bare) (q : Point3) (k : Pick) (w : Searched) → search_in t q ≡ w → Agrees k t.count w → Visits t q
-agrees_visits t q k (Found r) e a = record { best = r; is = e; bounded = a.1 }
-agrees_visits t q k Stopped e a = absurd a
+agrees_visits : (t : Bare) (q : Point3) (k : Pick) (w : Option Best) → search_in t q ≡ w → Agrees k t.count w → Visits t q
+agrees_visits t q k (Some r) e a = record { best = r; is = e; bounded = a.1 }
+agrees_visits t q k None e a = absurd a
 
 first_in : (q : Point3) (m : Numbered) (l : List Numbered) → FirstNearest q m l → In m l
 first_in q m l f = subst (In m) (sym f.split) (in_middle f.before f.after m)
@@ -213,7 +211,7 @@ first_least q m l f =
 
 -- ---- an empty tree names nothing
 
-pub empty_names_nothing : (a : Lists) (b : BoundingBox) (q : Point3) → nearest_in (empty a b) q ≡ Nothing
+pub empty_names_nothing : (a : Lists) (b : BoundingBox) (q : Point3) → nearest_in (empty a b) q ≡ Ok None
 empty_names_nothing a b q =
     sym (whole.nothing_in a 0 b q (simp (le-leb 0 (length a.positions) (omega arith), le-leb 0 (length a.left) (omega arith), le-leb 0 (length a.right) (omega arith), le-leb 0 (length a.numbers) (omega arith))) refl)
 
@@ -277,7 +275,7 @@ module _ (a : Lists) (b : BoundingBox) (m : Numbered) (ms : List Numbered) (room
         (prune tree.count q F.tree tree.bounds 0 s (sorted_within F.tree tree.bounds 0 c F.sorted F.inside) (omega arith)))
 
     -- THE NEAREST NAMES WHAT THE UNPRUNED WALK NAMES, whatever the floats
-    pub names : nearest_in tree q ≡ Number (walk_names tree q).number
+    pub names : nearest_in tree q ≡ Ok (Some (walk_names tree q).number)
     unfolding walk_names
     names =
         sym (whole.read tree.lists tree.count tree.bounds q long nonempty (search_in tree q) refl)
@@ -288,13 +286,13 @@ module _ (a : Lists) (b : BoundingBox) (m : Numbered) (ms : List Numbered) (room
     visits_bounded = agrees_visits tree q (walk q (tree_in tree) 0 start) (search_in tree q) refl agrees
 
     -- A QUERY WITH A NAN COORDINATE GIVES THE ROOT'S NUMBER
-    pub nan_query : SomeNan q → nearest_in tree q ≡ Number m.number
+    pub nan_query : SomeNan q → nearest_in tree q ≡ Ok (Some m.number)
     unfolding walk_names
     nan_query n =
         let d : (k : ℕ) (p : Point3) → lt (dist_sq_of p q) start.dist ≡ false = λ k p. ap (λ (z : Float). lt z start.dist) (dist_nan p q n.which) ∙ nan_lt start.dist in
         names
-        ∙ ap (λ (k : Pick). Number (get_or tree.lists.numbers k.place 0)) (walk_none q (tree_in tree) 0 start (all_any (λ k p. lt (dist_sq_of p q) start.dist ≡ false) (tree_in tree) d))
-        ∙ ap (λ (x : Numbered). Number x.number) root_is
+        ∙ ap (λ (k : Pick). Ok (Some (get_or tree.lists.numbers k.place 0))) (walk_none q (tree_in tree) 0 start (all_any (λ k p. lt (dist_sq_of p q) start.dist ≡ false) (tree_in tree) d))
+        ∙ ap (λ (x : Numbered). Ok (Some x.number)) root_is
 
     -- ---- finite coordinates and a finite query: each distance is a number, an infinite one where it overflows
 
@@ -339,8 +337,8 @@ module _ (a : Lists) (b : BoundingBox) (m : Numbered) (ms : List Numbered) (room
           (first_least q (walk_names tree q) (root_in tree ∷ visiting tree q) first_met).1
 
       -- A MEASUREMENT THAT ALONE HAS THE SMALLEST DISTANCE IS NAMED
-      pub unique : (x : Numbered) → Alone q x (m ∷ ms) → nearest_in tree q ≡ Number x.number
-      unique x al = names ∙ ap (λ (y : Numbered). Number y.number) (go (each_in (λ (y : Numbered). (y ≡ x) ⊎ Nearer q x y) (m ∷ ms) (walk_names tree q) al.farther named_one))
+      pub unique : (x : Numbered) → Alone q x (m ∷ ms) → nearest_in tree q ≡ Ok (Some x.number)
+      unique x al = names ∙ ap (λ (y : Numbered). Ok (Some y.number)) (go (each_in (λ (y : Numbered). (y ≡ x) ⊎ Nearer q x y) (m ∷ ms) (walk_names tree q) al.farther named_one))
         where
           go : (walk_names tree q ≡ x) ⊎ Nearer q x (walk_names tree q) → walk_names tree q ≡ x
           go (inl e) = e

@@ -12,11 +12,11 @@ use Rattle.points.specs.declared.Point3.{Point3}
 use Rattle.points.specs.Points.{point_at}
 use Rattle.kdtree.specs.declared.BoundingBox.{BoundingBox}
 use Rattle.kdtree.specs.declared.Slot.{Slot}
-use Rattle.kdtree.specs.declared.Slot.TheVariants.{Left, Right, None}
-use Rattle.kdtree.specs.declared.Inserted.TheVariants.{Done}
+use Rattle.kdtree.specs.declared.Slot.TheVariants.{Left, Right, Blocked}
+use Rattle.std.proofs.Common.{Ok}
 use Rattle.kdtree.specs.Geometry.{next_axis, left_first, goes_left, box_at, grown}
 use Rattle.kdtree.specs.Tree.{Tree, gone, bad, node}
-use Rattle.kdtree.specs.Insert.{Lists, stored_as, tree_of, side_slot, slot_in, written, linked_left, linked_right}
+use Rattle.kdtree.specs.Insert.{Lists, stored_as, tree_of, side_slot, slot_in, written, left_linked, right_linked, linked_at}
 use Rattle.kdtree.specs.Unpruned.{Item, order, size}
 use Rattle.kdtree.proofs.Nodes.{All}
 use Rattle.kdtree.proofs.Whole as whole
@@ -34,26 +34,26 @@ IsNode gone = ⊥
 IsNode bad = ⊥
 IsNode (node n p a b) = Unit
 
-abbrev Some : Slot → Type 0
-Some (Left s) = Unit
-Some (Right s) = Unit
-Some None = ⊥
+abbrev Open : Slot → Type 0
+Open (Left s) = Unit
+Open (Right s) = Unit
+Open Blocked = ⊥
 
 module _ (x : Point3) where
-  side_some : (t : Tree) (v w : Slot) → Clean t → Some v → (IsNode t → Some w) → Some (side_slot t v w)
+  side_some : (t : Tree) (v w : Slot) → Clean t → Open v → (IsNode t → Open w) → Open (side_slot t v w)
   unfolding side_slot
   side_some gone v w c a b = a
   side_some bad v w c a b = c
   side_some (node n p l r) v w c a b = b tt
 
-  slot_some : (t : Tree) (axis : ℕ) → Clean t → IsNode t → Some (slot_in x t axis)
+  slot_some : (t : Tree) (axis : ℕ) → Clean t → IsNode t → Open (slot_in x t axis)
   unfolding slot_in
   slot_some gone axis c i = i
   slot_some bad axis c i = i
   slot_some (node n p l r) axis c i = go (goes_left x p axis) (slot_some l (next_axis axis) c.0) (slot_some r (next_axis axis) c.1)
     where
-      go : (g : Bool) → (IsNode l → Some (slot_in x l (next_axis axis))) → (IsNode r → Some (slot_in x r (next_axis axis)))
-          → Some (cond g (side_slot l (Left n) (slot_in x l (next_axis axis))) (side_slot r (Right n) (slot_in x r (next_axis axis))))
+      go : (g : Bool) → (IsNode l → Open (slot_in x l (next_axis axis))) → (IsNode r → Open (slot_in x r (next_axis axis)))
+          → Open (cond g (side_slot l (Left n) (slot_in x l (next_axis axis))) (side_slot r (Right n) (slot_in x r (next_axis axis))))
       go true u v = side_some l (Left n) (slot_in x l (next_axis axis)) c.0 tt u
       go false u v = side_some r (Right n) (slot_in x r (next_axis axis)) c.1 tt v
 
@@ -109,6 +109,12 @@ module _ (l : List ℕ) (c : ℕ) where
 left_right : (s i : ℕ) {A : Type 0} → Left s ≡ Right i → A
 left_right s i e = let z : ◌≡◌ {A = ℕ} 0 1 = cc in absurd (omega arith)
 
+left_blocked : (s : ℕ) → Left s ≡ Blocked → ⊥
+left_blocked s e = let z : ◌≡◌ {A = ℕ} 0 1 = cc in absurd (omega arith)
+
+right_blocked : (s : ℕ) → Right s ≡ Blocked → ⊥
+right_blocked s e = let z : ◌≡◌ {A = ℕ} 0 1 = cc in absurd (omega arith)
+
 left_left : (s i : ℕ) → Left s ≡ Left i → i ≡ s
 left_left s i e = cc
 
@@ -117,13 +123,13 @@ right_right s i e = cc
 
 module _ (a : Lists) (c : ℕ) (p : Point3) (num : ℕ) (h : whole.Room a c) where
   abbrev to_left : ℕ → Lists
-  to_left s = written (linked_left a s c) c p num
+  to_left s = written (linked_at (Left s) c a) c p num
 
   abbrev to_right : ℕ → Lists
-  to_right s = written (linked_right a s c) c p num
+  to_right s = written (linked_at (Right s) c a) c p num
 
   new_at_left : (s : ℕ) → s < c → New a.left a.right a.positions c p (to_left s).left (to_left s).right (to_left s).positions (Left s)
-  unfolding written linked_left
+  unfolding written linked_at left_linked right_linked
   new_at_left s l = record {
     other = λ i k f. (other_two a.left c s 65535 c i k f, other_one a.right c 65535 i k);
     at_left = λ i e. (
@@ -138,7 +144,7 @@ module _ (a : Lists) (c : ℕ) (p : Point3) (num : ℕ) (h : whole.Room a c) whe
   }
 
   new_at_right : (s : ℕ) → s < c → New a.left a.right a.positions c p (to_right s).left (to_right s).right (to_right s).positions (Right s)
-  unfolding written linked_right
+  unfolding written linked_at left_linked right_linked
   new_at_right s l = record {
     other = λ i k f. (other_one a.left c 65535 i k, other_two a.right c s 65535 c i k f);
     at_left = λ i e. left_right i s (sym e);
@@ -256,7 +262,7 @@ pub record Filled (m : Numbered) (ms : List Numbered) (t : Bare) : Type 0 where
 pub record Next (t : Bare) (x : Numbered) (m : Numbered) (ms : List Numbered) : Type 0 where
   pub lists : Lists
   pub bounds : BoundingBox
-  pub is : insert_into t x ≡ stored_as (Done bounds) lists
+  pub is : insert_into t x ≡ stored_as (Ok bounds) lists
   pub same : SameLengths t.lists lists
   pub filled : Filled m ms (record { lists = lists; count = suc t.count; bounds = bounds })
   -- what stands where, the box and the tree, of a first insert and of a later one
@@ -375,16 +381,16 @@ module _ (t : Bare) (x m : Numbered) (ms : List Numbered) (h : whole.Room t.list
         (put_new a'.positions c p (subst (λ (k : List Float). 3 * c + 2 < length k) (sym ep) h.positions))
 
   same_left : (s : ℕ) → SameLengths a (to_left a c p n h s)
-  unfolding written linked_left
+  unfolding written linked_at left_linked right_linked
   same_left s = record { positions = simp length-set; left = simp length-set; right = simp length-set; numbers = simp length-set }
 
   same_right : (s : ℕ) → SameLengths a (to_right a c p n h s)
-  unfolding written linked_right
+  unfolding written linked_at left_linked right_linked
   same_right s = record { positions = simp length-set; left = simp length-set; right = simp length-set; numbers = simp length-set }
 
   -- EACH INSERT GOES THROUGH: no bad link is met, and the lists draw the tree with the new node
   pub next : Next t x m (ms ++ (x ∷ []))
-  unfolding linked_left linked_right next_filled
+  unfolding linked_at left_linked right_linked next_filled
   next = go (slot_in p F.tree 0) refl (slot_some p F.tree 0 clean (root_node a.left a.right a.positions c F.tree 0 F.rep))
     where
       nz : c ≡ 0 → ⊥
@@ -396,22 +402,22 @@ module _ (t : Bare) (x m : Numbered) (ms : List Numbered) (h : whole.Room t.list
       below : (s : ℕ) → Owner (slot_in p F.tree 0) s → s < c
       below s o = root_below a.left a.right a.positions c F.tree 0 s F.rep (owner_in p F.tree 0 s o)
 
-      go : (sl : Slot) → slot_in p F.tree 0 ≡ sl → Some sl → Next t x m (ms ++ (x ∷ []))
+      go : (sl : Slot) → slot_in p F.tree 0 ≡ sl → Open sl → Next t x m (ms ++ (x ∷ []))
       go (Left s) e u =
           let l = below s (subst (λ (k : Slot). Owner k s) (sym e) refl) in
           let a' = to_left a c p n h s in
           record {
             lists = a';
             bounds = grown t.bounds p;
-            is = sym (whole.at_left a c t.bounds p n h nz (slot_in p F.tree 0) unfolds s a' (grown t.bounds p) e refl refl);
+            is = sym (whole.at_slot a c t.bounds p n h nz (slot_in p F.tree 0) unfolds a' (grown t.bounds p) (λ z. left_blocked s (sym e ∙ z)) (ap (λ (k : Slot). written (linked_at k c a) c p n) (sym e)) refl);
             same = same_left s;
             filled = next_filled a' (record {
               new = subst (λ (k : Slot). New a.left a.right a.positions c p a'.left a'.right a'.positions k) (sym e) (new_at_left a c p n h s l);
-              old = written_old (linked_left a s c) refl refl;
-              own = written_own (linked_left a s c) refl refl;
+              old = written_old (linked_at (Left s) c a) refl refl;
+              own = written_own (linked_at (Left s) c a) refl refl;
             });
-            old = written_old (linked_left a s c) refl refl;
-            own = written_own (linked_left a s c) refl refl;
+            old = written_old (linked_at (Left s) c a) refl refl;
+            own = written_own (linked_at (Left s) c a) refl refl;
             starts = λ k. absurd (nz k);
             grows = λ k. (refl, drawn);
           }
@@ -421,16 +427,16 @@ module _ (t : Bare) (x m : Numbered) (ms : List Numbered) (h : whole.Room t.list
           record {
             lists = a';
             bounds = grown t.bounds p;
-            is = sym (whole.at_right a c t.bounds p n h nz (slot_in p F.tree 0) unfolds s a' (grown t.bounds p) e refl refl);
+            is = sym (whole.at_slot a c t.bounds p n h nz (slot_in p F.tree 0) unfolds a' (grown t.bounds p) (λ z. right_blocked s (sym e ∙ z)) (ap (λ (k : Slot). written (linked_at k c a) c p n) (sym e)) refl);
             same = same_right s;
             filled = next_filled a' (record {
               new = subst (λ (k : Slot). New a.left a.right a.positions c p a'.left a'.right a'.positions k) (sym e) (new_at_right a c p n h s l);
-              old = written_old (linked_right a s c) refl refl;
-              own = written_own (linked_right a s c) refl refl;
+              old = written_old (linked_at (Right s) c a) refl refl;
+              own = written_own (linked_at (Right s) c a) refl refl;
             });
-            old = written_old (linked_right a s c) refl refl;
-            own = written_own (linked_right a s c) refl refl;
+            old = written_old (linked_at (Right s) c a) refl refl;
+            own = written_own (linked_at (Right s) c a) refl refl;
             starts = λ k. absurd (nz k);
             grows = λ k. (refl, drawn);
           }
-      go None e u = absurd u
+      go Blocked e u = absurd u

@@ -6,12 +6,11 @@ use native.Mathlib.Omega.{arith}
 use lib.Ieee.{Float, lt}
 use lib.Ieee.Bits.{is_false}
 use borrow.Author.Tests.{lt-ltb}
+use Rattle.std.proofs.Common.{Option, Some, None}
 use Rattle.points.specs.declared.Point3.{Point3}
 use Rattle.floats.proofs.Cross.{of_left}
 use Rattle.kdtree.specs.declared.BoundingBox.{BoundingBox}
 use Rattle.kdtree.specs.declared.Best.{Best}
-use Rattle.kdtree.specs.declared.Searched.{Searched}
-use Rattle.kdtree.specs.declared.Searched.TheVariants.{Found, Stopped}
 use Rattle.points.specs.Points.{dist_sq_of}
 use Rattle.kdtree.specs.Geometry.{coord_of, box_dist_sq, with_min, with_max, next_axis, left_first}
 use Rattle.kdtree.specs.Tree.{Tree, gone, bad, node}
@@ -87,9 +86,9 @@ module _ (q : Point3) where
 
 -- ---- the answer found is the pick k, with at most v visits
 
-abbrev pub Agrees : Pick → ℕ → Searched → Type 0
-Agrees k v (Found r) = (pick_of r ≡ k) × (r.visits ≤ v)
-Agrees k v Stopped = ⊥
+abbrev pub Agrees : Pick → ℕ → Option Best → Type 0
+Agrees k v (Some r) = (pick_of r ≡ k) × (r.visits ≤ v)
+Agrees k v None = ⊥
 
 improve_pick : (q : Point3) (n : ℕ) (p : Point3) (s : Best) → pick_of (improve n (dist_sq_of p q) s) ≡ meet q n p (pick_of s)
 unfolding pick_of improve meet
@@ -112,13 +111,13 @@ improve_visits n d s = go (lt d s.dist)
     go true = refl
     go false = refl
 
-cond_agrees : (c : Bool) (z : Pick) (v : ℕ) (w : Searched) (s : Best) → Agrees z v w → (c ≡ false → (pick_of s ≡ z) × (s.visits ≤ v)) → Agrees z v (cond c w (Found s))
+cond_agrees : (c : Bool) (z : Pick) (v : ℕ) (w : Option Best) (s : Best) → Agrees z v w → (c ≡ false → (pick_of s ≡ z) × (s.visits ≤ v)) → Agrees z v (cond c w (Some s))
 cond_agrees true z v w s h g = h
 cond_agrees false z v w s h g = g refl
 
-agrees_le : (k k' : Pick) (v v' : ℕ) (w : Searched) → k ≡ k' → v ≤ v' → Agrees k v w → Agrees k' v' w
-agrees_le k k' v v' (Found r) e h a = (a.0 ∙ e, (let z = a.1 in omega arith))
-agrees_le k k' v v' Stopped e h a = a
+agrees_le : (k k' : Pick) (v v' : ℕ) (w : Option Best) → k ≡ k' → v ≤ v' → Agrees k v w → Agrees k' v' w
+agrees_le k k' v v' (Some r) e h a = (a.0 ∙ e, (let z = a.1 in omega arith))
+agrees_le k k' v v' None e h a = a
 
 module _ (q : Point3) where
   -- the farther side: searched or passed over
@@ -132,11 +131,11 @@ module _ (q : Point3) where
   far_agrees (node n p l r) go b axis s c ih skip =
       cond_agrees (lt (box_dist_sq b q) s.dist) _ _ (go b axis s) s ih (λ e. (sym (skip e), omega arith))
 
-  near_agrees : (w : Searched) (k : Best → Searched) (a z : Pick) (u v : ℕ) → Agrees a u w
+  near_agrees : (w : Option Best) (k : Best → Option Best) (a z : Pick) (u v : ℕ) → Agrees a u w
       → ((s : Best) → pick_of s ≡ a → s.visits ≤ u → Agrees z v (k s)) → Agrees z v (after_near w k)
   unfolding after_near
-  near_agrees (Found s) k a z u v h g = g s h.0 h.1
-  near_agrees Stopped k a z u v h g = h
+  near_agrees (Some s) k a z u v h g = g s h.0 h.1
+  near_agrees None k a z u v h g = h
 
   walk_left : (n : ℕ) (p : Point3) (l r : Tree) (axis : ℕ) (k : Pick) → left_first q p axis ≡ true
       → walk q (node n p l r) axis k ≡ walk q r (next_axis axis) (meet q n p (walk q l (next_axis axis) k))

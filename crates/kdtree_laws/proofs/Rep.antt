@@ -11,7 +11,7 @@ use borrow.Author.Tests.{lt-ltb, eq-eqb, ne_eqb}
 use Rattle.points.specs.declared.Point3.{Point3}
 use Rattle.kdtree.specs.declared.Link.TheVariants.{Gone, To}
 use Rattle.kdtree.specs.declared.Slot.{Slot}
-use Rattle.kdtree.specs.declared.Slot.TheVariants.{Left, Right, None}
+use Rattle.kdtree.specs.declared.Slot.TheVariants.{Left, Right, Blocked}
 use Rattle.kdtree.specs.Geometry.{next_axis, goes_left}
 use Rattle.kdtree.specs.Tree.{Tree, gone, bad, node, link_of, side_of, subtree}
 use Rattle.points.specs.Points.{point_at}
@@ -182,7 +182,7 @@ module _ (left right : List ℕ) (xs : List Float) (count : ℕ) where
 abbrev pub Owner : Slot → ℕ → Type 0
 Owner (Left s) i = i ≡ s
 Owner (Right s) i = i ≡ s
-Owner None i = ⊥
+Owner Blocked i = ⊥
 
 module _ (x : Point3) where
   side_owner_in : (t : Tree) (v w : Slot) (P : ℕ → Type 0) (i : ℕ) → (Owner v i → P i) → (Owner w i → P i) → Owner (side_slot t v w) i → P i

@@ -1,17 +1,14 @@
 -- Demand 3 in the words of document 01's "Distance, tree, tie": loads are inserts into bare trees with room for all. Definitions only; the
 -- theorems are in proofs/Demand3.antt.
-use Rattle.std.specs.Prelude.{◌≡◌, ◌⊎◌, not, List, [], ◌∷◌, ◌++◌, map, ℕ, suc, ◌*◌, ◌≤◌, length, get_or, T, Float}
+use Rattle.std.specs.Prelude.{◌≡◌, ◌⊎◌, not, List, [], ◌∷◌, ◌++◌, map, ℕ, suc, ◌*◌, ◌≤◌, length, get_or, Option, Some, Result, Ok, Err, T, Float}
 use Rattle.std.specs.Float.{nan}
 use Rattle.std.specs.Float.Ieee.{lt}
 use Rattle.lists.specs.Each.{Each, In}
 use Rattle.points.specs.declared.Point3.{Point3}
 use Rattle.points.specs.Points.{point_at, dist_sq_of}
 use Rattle.kdtree.specs.declared.BoundingBox.{BoundingBox}
-use Rattle.kdtree.specs.declared.Inserted.{Inserted}
-use Rattle.kdtree.specs.declared.Inserted.TheVariants.{Done, Refused}
-use Rattle.kdtree.specs.declared.Searched.{Searched}
-use Rattle.kdtree.specs.declared.Named.{Named}
-use Rattle.kdtree.specs.declared.Named.TheVariants.{Number}
+use Rattle.refusals.specs.declared.Refusal.{Refusal}
+use Rattle.kdtree.specs.declared.Best.{Best}
 use Rattle.kdtree.specs.Tree.{Tree}
 use Rattle.kdtree.specs.Unpruned.{Item, walk, order}
 use Rattle.kdtree.specs.Insert.{Lists, Stored, tree_of, insert_of}
@@ -65,9 +62,9 @@ empty a b = record { lists = a; count = 0; bounds = b }
 unfoldable pub kept : Stored → Bare → Bare
 kept s t = go s.out
   where
-    go : Inserted → Bare
-    go (Done b) = record { lists = s.lists; count = suc t.count; bounds = b }
-    go (Refused k n) = t
+    go : Result BoundingBox Refusal → Bare
+    go (Ok b) = record { lists = s.lists; count = suc t.count; bounds = b }
+    go (Err r) = t
 
 abbrev pub insert_into : Bare → Numbered → Stored
 insert_into t m = insert_of t.lists t.count t.bounds m.point m.number
@@ -77,13 +74,13 @@ fill [] t = t
 fill (m ∷ ms) t = fill ms (kept (insert_into t m) t)
 
 -- what the inserts of a fill answer, one after the other
-unfoldable pub answers : List Numbered → Bare → List Inserted
+unfoldable pub answers : List Numbered → Bare → List (Result BoundingBox Refusal)
 answers [] t = []
 answers (m ∷ ms) t = (insert_into t m).out ∷ answers ms (kept (insert_into t m) t)
 
-abbrev pub Accepted : Inserted → Type 0
-Accepted (Done b) = Unit
-Accepted (Refused k n) = ⊥
+abbrev pub Accepted : Result BoundingBox Refusal → Type 0
+Accepted (Ok b) = Unit
+Accepted (Err r) = ⊥
 
 -- room for n: document 01's limit, and the lists' lengths
 pub record RoomFor (a : Lists) (n : ℕ) : Type 0 where
@@ -96,10 +93,10 @@ pub record RoomFor (a : Lists) (n : ℕ) : Type 0 where
 -- ---- the two searches of a bare tree
 
 -- what `nearest` promises, and the place and the visits behind it
-abbrev pub nearest_in : Bare → Point3 → Named
+abbrev pub nearest_in : Bare → Point3 → Result (Option ℕ) Refusal
 nearest_in t q = nearest_of t.lists t.count t.bounds q
 
-abbrev pub search_in : Bare → Point3 → Searched
+abbrev pub search_in : Bare → Point3 → Option Best
 search_in t q = place_found t.lists.positions t.lists.left t.lists.right t.count t.bounds q
 
 abbrev pub tree_in : Bare → Tree
@@ -139,13 +136,13 @@ pub record Alone (q : Point3) (m : Numbered) (l : List Numbered) : Type 0 where
 -- and none has a smaller distance. Root and walk meet these and no others, the walk each as often as it was inserted; the first of them that none is nearer
 -- than is named, the root before all. One that alone has the smallest distance is named, whatever the order.
 pub record NamesNearest (q : Point3) (ms : List Numbered) (t : Bare) : Type 0 where
-  pub named : nearest_in t q ≡ Number (walk_names t q).number
+  pub named : nearest_in t q ≡ Ok (Some (walk_names t q).number)
   pub one_of : In (walk_names t q) ms
   pub least : Each (λ (x : Numbered). NotNearer q x (walk_names t q)) ms
   pub root_one_of : In (root_in t) ms
   pub meets : Reordered ms (visiting t q)
   pub first_met : FirstNearest q (walk_names t q) (root_in t ∷ visiting t q)
-  pub alone : (m : Numbered) → Alone q m ms → nearest_in t q ≡ Number m.number
+  pub alone : (m : Numbered) → Alone q m ms → nearest_in t q ≡ Ok (Some m.number)
 
 -- DEMAND 3, of two bare trees t and t' into which the same measurements ms were inserted in two orders, and a query q: all of the above holds of both, so that
 -- where one measurement alone has the smallest distance both name it; and what they name has one distance, so that the two can differ only in a tie

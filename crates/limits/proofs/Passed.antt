@@ -1,4 +1,4 @@
--- What a verdict of Fine gives a caller: bounds on the sizes, the lengths of the lent lists, allowed values, finite queries. Assumes nothing.
+-- What a verdict of Ok gives a caller: bounds on the sizes, the lengths of the lent lists, allowed values, finite queries. Assumes nothing.
 use Prim.Native.Nat.{ℕ, ◌*◌, ◌≤◌, ◌<◌}
 use mathlib.Core.Path.{◌≡◌}
 use mathlib.Core.Bool.{Bool, true, false, ◌&&◌}
@@ -15,7 +15,7 @@ use Rattle.floats.proofs.Cross.{and_left, and_right, and6, of_taken}
 use Rattle.limits.specs.declared.Sizes.{Sizes}
 use Rattle.limits.specs.declared.TreeLengths.{TreeLengths}
 use Rattle.limits.specs.declared.Lengths.{Lengths}
-use Rattle.limits.specs.declared.Verdict.TheVariants.{Fine}
+use Rattle.std.specs.Prelude.{Ok}
 use Rattle.limits.specs.Allowed.{sizes_ok, tree_fits, responses_fit, neighbours_fit, plain_fits, blend_fits, load_fits, kind_ok, position_ok, first_bad, angle_step_ok, radius_step_ok, rate_ok}
 use Rattle.limits.specs.Refusals.{verdict_of, query_lines, load_lines, find_lines, filter_lines, number_lines, rated_lines, value_lines, triplets}
 use Rattle.limits.proofs.Lines.{passed}
@@ -103,7 +103,7 @@ pub record FiniteQuery (q : Point3) : Type 0 where
   pub y : T (finite q.y)
   pub z : T (finite q.z)
 
-pub query_passed : (q : Point3) → verdict_of (query_lines q) ≡ Fine → FiniteQuery q
+pub query_passed : (q : Point3) → verdict_of (query_lines q) ≡ Ok tt → FiniteQuery q
 query_passed q e =
     let p0 = passed _ _ e in
     let p1 = passed _ _ p0.1 in
@@ -115,7 +115,7 @@ pub record FindPassed (s : Sizes) (t : TreeLengths) (q : Point3) : Type 0 where
   pub room : TreeRoom s t
   pub query : FiniteQuery q
 
-pub find_passed : (s : Sizes) (t : TreeLengths) (q : Point3) → verdict_of (find_lines s t q) ≡ Fine → FindPassed s t q
+pub find_passed : (s : Sizes) (t : TreeLengths) (q : Point3) → verdict_of (find_lines s t q) ≡ Ok tt → FindPassed s t q
 find_passed s t q e =
     let p2 = passed _ _ e in
     let p3 = passed _ _ p2.1 in
@@ -128,7 +128,7 @@ pub record FilterPassed (s : Sizes) (fit : Bool) (rate : Float) (q : Point3) : T
   pub rated : rate_ok rate ≡ true
   pub query : FiniteQuery q
 
-pub filter_passed : (s : Sizes) (fit : Bool) (rate : Float) (q : Point3) → verdict_of (filter_lines s fit rate q) ≡ Fine → FilterPassed s fit rate q
+pub filter_passed : (s : Sizes) (fit : Bool) (rate : Float) (q : Point3) → verdict_of (filter_lines s fit rate q) ≡ Ok tt → FilterPassed s fit rate q
 filter_passed s fit rate q e =
     let p2 = passed _ _ e in
     let p3 = passed _ _ p2.1 in
@@ -140,7 +140,7 @@ pub record NumberPassed (s : Sizes) (fit : Bool) (number : ℕ) : Type 0 where
   pub fits : fit ≡ true
   pub below : number < s.m
 
-pub number_passed : (s : Sizes) (fit : Bool) (number : ℕ) → verdict_of (number_lines s fit number) ≡ Fine → NumberPassed s fit number
+pub number_passed : (s : Sizes) (fit : Bool) (number : ℕ) → verdict_of (number_lines s fit number) ≡ Ok tt → NumberPassed s fit number
 number_passed s fit number e =
     let p2 = passed _ _ e in
     let p3 = passed _ _ p2.1 in
@@ -153,7 +153,7 @@ pub record RatedPassed (s : Sizes) (fit : Bool) (rate : Float) (number : ℕ) : 
   pub rated : rate_ok rate ≡ true
   pub below : number < s.m
 
-pub rated_passed : (s : Sizes) (fit : Bool) (rate : Float) (number : ℕ) → verdict_of (rated_lines s fit rate number) ≡ Fine → RatedPassed s fit rate number
+pub rated_passed : (s : Sizes) (fit : Bool) (rate : Float) (number : ℕ) → verdict_of (rated_lines s fit rate number) ≡ Ok tt → RatedPassed s fit rate number
 rated_passed s fit rate number e =
     let p2 = passed _ _ e in
     let p3 = passed _ _ p2.1 in
@@ -168,7 +168,7 @@ Allowed kind xs n = (i : ℕ) → i < n → position_ok kind i (get_or xs i nan)
 pub values_allowed : (kind : ℕ) (xs : List Float) (n : ℕ) → ltb (first_bad (position_ok kind) xs n) n ≡ false → Allowed kind xs n
 values_allowed kind xs n e i h = allowed_before (position_ok kind) xs n i h (omega (arith, ltb-false (first_bad (position_ok kind) xs n) n e))
 
-pub values_passed : (kind : ℕ) (xs : List Float) → verdict_of (value_lines kind xs) ≡ Fine → Allowed kind xs (triplets xs)
+pub values_passed : (kind : ℕ) (xs : List Float) → verdict_of (value_lines kind xs) ≡ Ok tt → Allowed kind xs (triplets xs)
 values_passed kind xs e = values_allowed kind xs (triplets xs) (passed _ _ e).0
 
 pub record LoadPassed (kind : ℕ) (s : Sizes) (l : Lengths) (xs : List Float) (astep rstep rate : Float) : Type 0 where
@@ -180,7 +180,7 @@ pub record LoadPassed (kind : ℕ) (s : Sizes) (l : Lengths) (xs : List Float) (
   pub radius : radius_step_ok rstep ≡ true
   pub rated : rate_ok rate ≡ true
 
-pub load_passed : (kind : ℕ) (s : Sizes) (l : Lengths) (xs : List Float) (astep rstep rate : Float) → verdict_of (load_lines kind s l xs astep rstep rate) ≡ Fine → LoadPassed kind s l xs astep rstep rate
+pub load_passed : (kind : ℕ) (s : Sizes) (l : Lengths) (xs : List Float) (astep rstep rate : Float) → verdict_of (load_lines kind s l xs astep rstep rate) ≡ Ok tt → LoadPassed kind s l xs astep rstep rate
 load_passed kind s l xs astep rstep rate e =
     let p1 = passed _ _ e in
     let p2 = passed _ _ p1.1 in

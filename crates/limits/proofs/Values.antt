@@ -3,16 +3,18 @@ use Prim.Native.Nat.{ℕ, zero, suc, ◌+◌, ◌≤◌, ◌<◌}
 use mathlib.Core.Path.{◌≡◌, refl, sym, ap, ◌∙◌}
 use mathlib.Core.Bool.{Bool, true, false}
 use mathlib.Core.List.{List, [], ◌∷◌}
-use native.Mathlib.Numerals.{add-one}
 use native.Mathlib.Omega.{arith}
-use borrow.Author.Tests.{ne_eqb, lt-ltb, le-ltb}
+use borrow.Author.Tests.{lt-ltb, le-ltb}
 use lib.ListN.{length, take, drop, get_or, drop_of_length-le}
-use lib.Seq.{drop-cons, length-take-le, get_or-take}
+use lib.Seq.{length-take-le, get_or-take, take-length}
+use native.Mathlib.Nat.{le_refl}
+use Rattle.std.specs.Prelude.{Ok, Err}
+use Rattle.std.proofs.lemmas.List.{drop_more}
+use Rattle.refusals.specs.declared.Refusal.TheVariants.{BadPosition}
 use lib.Ieee.{Float, nan}
-use Rattle.limits.specs.declared.Verdict.TheVariants.{Refused}
 use Rattle.limits.specs.Allowed.{bad_from, first_bad, kind_ok, position_ok}
-use Rattle.limits.specs.Refusals.{Check, verdict_of, bad_value}
-use Rattle.limits.proofs.Lines.{stops, goes_on}
+use Rattle.limits.specs.Refusals.{verdict_of, bad_value}
+use Rattle.limits.proofs.Lines.{stops, goes_on, none}
 
 pub known : (kind : ℕ) → kind < 2 → kind_ok kind ≡ true
 unfolding kind_ok
@@ -20,39 +22,49 @@ known zero h = refl
 known (suc zero) h = refl
 known (suc (suc k)) h = absurd (omega arith)
 
-pub unknown : (kind : ℕ) → 2 ≤ kind → kind_ok kind ≡ false
-unfolding kind_ok
-unknown kind h = rw (ne_eqb kind 0 (λ e. omega arith), ne_eqb kind 1 (λ e. omega arith))
-
-module _ (ok : ℕ → Float → Bool) (xs : List Float) (n : ℕ) (room : n ≤ length xs) where
+module _ (ok : ℕ → Float → Bool) (xs : List Float) where
   -- the search stands at i: it goes on, stops, or is at the end
-  pub bad_on : (i : ℕ) → i < n → ok i (get_or xs i nan) ≡ true → bad_from ok i (drop i (take n xs)) ≡ bad_from ok (i + 1) (drop (i + 1) (take n xs))
+  pub bad_on : (i : ℕ) → i < length xs → ok i (get_or xs i nan) ≡ true → bad_from ok i (drop i xs) ≡ bad_from ok (i + 1) (drop (i + 1) xs)
   unfolding bad_from
-  bad_on i h e =
-      let l = length-take-le n xs room in
-      rw (drop-cons (take n xs) i nan (omega arith), get_or-take n xs i nan h, e)
-      (ap (λ (j : ℕ). bad_from ok (i + 1) (drop j (take n xs))) (sym (add-one i)))
+  bad_on i h e = rw (drop_more xs i nan h, e)
 
-  pub bad_here : (i : ℕ) → i < n → ok i (get_or xs i nan) ≡ false → bad_from ok i (drop i (take n xs)) ≡ i
+  pub bad_here : (i : ℕ) → i < length xs → ok i (get_or xs i nan) ≡ false → bad_from ok i (drop i xs) ≡ i
   unfolding bad_from
-  bad_here i h e =
-      let l = length-take-le n xs room in
-      rw (drop-cons (take n xs) i nan (omega arith), get_or-take n xs i nan h, e)
+  bad_here i h e = rw (drop_more xs i nan h, e)
 
-  pub bad_end : bad_from ok n (drop n (take n xs)) ≡ n
+  pub bad_end : bad_from ok (length xs) (drop (length xs) xs) ≡ length xs
   unfolding bad_from
-  bad_end =
-      let l = length-take-le n xs room in
-      let all : length (take n xs) ≤ n = omega arith in
-      rw (drop_of_length-le (take n xs) all)
+  bad_end = rw (drop_of_length-le xs (le_refl (length xs)))
 
--- the line of the table, from what the search found
-module _ (kind : ℕ) (xs : List Float) (n bad : ℕ) (found : bad ≡ first_bad (position_ok kind) xs n) (cs : List Check) where
-  pub value_bad : bad < n → Refused 4 bad ≡ verdict_of (bad_value kind xs n ∷ cs)
-  value_bad h = ap (Refused 4) found ∙ sym (stops (bad_value kind xs n) cs (rw (← found) (lt-ltb bad n h)))
+  -- the search of a whole list
+  pub of_whole : first_bad ok xs (length xs) ≡ bad_from ok 0 xs
+  unfolding first_bad
+  of_whole = ap (bad_from ok 0) (take-length xs)
 
-  pub value_fine : n ≤ bad → verdict_of (bad_value kind xs n ∷ cs) ≡ verdict_of cs
-  value_fine h = goes_on (bad_value kind xs n) cs (rw (← found) (le-ltb bad n h))
+  -- and of a front of it, which may be lent by itself
+  pub of_front : (n : ℕ) → n ≤ length xs → first_bad ok (take n xs) (length (take n xs)) ≡ first_bad ok xs n
+  unfolding first_bad
+  of_front n h = ap (bad_from ok 0) (take-length (take n xs))
+
+-- the line of the table, from where the search of a whole list ends
+module _ (kind : ℕ) (xs : List Float) (i : ℕ) (searched : bad_from (position_ok kind) i (drop i xs) ≡ bad_from (position_ok kind) 0 xs) where
+  at_end : (j : ℕ) → bad_from (position_ok kind) i (drop i xs) ≡ j → first_bad (position_ok kind) xs (length xs) ≡ j
+  at_end j e = of_whole (position_ok kind) xs ∙ sym searched ∙ e
+
+  pub value_bad : i < length xs → position_ok kind i (get_or xs i nan) ≡ false → verdict_of (bad_value kind xs (length xs) ∷ []) ≡ Err (BadPosition i)
+  value_bad h bad =
+      let e = at_end i (bad_here (position_ok kind) xs i h bad) in
+      stops (bad_value kind xs (length xs)) [] (rw e (lt-ltb i (length xs) h)) ∙ ap (λ (j : ℕ). Err (BadPosition j)) e
+
+  pub value_fine : length xs ≤ i → i ≤ length xs → verdict_of (bad_value kind xs (length xs) ∷ []) ≡ Ok tt
+  value_fine l h =
+      let n : i ≡ length xs = omega arith in
+      let e = at_end (length xs) (rw n (bad_end (position_ok kind) xs)) in
+      goes_on (bad_value kind xs (length xs)) [] (rw e (le-ltb (length xs) (length xs) (le_refl (length xs)))) ∙ none
+
+-- the line over a front of a list, from the line over the front lent by itself
+pub value_front : (kind : ℕ) (xs : List Float) (n : ℕ) → n ≤ length xs → bad_value kind (take n xs) (length (take n xs)) ≡ bad_value kind xs n
+value_front kind xs n h = rw (of_front (position_ok kind) xs n h, length-take-le n xs h)
 
 -- ---- what the search finds: every value before it is allowed, and the one there is not
 

@@ -1,5 +1,5 @@
 -- Document 01's "Numbers allowed": sizes, the lengths of lent lists, values, steps, rate. Definitions only.
-use Rattle.std.specs.Prelude.{ℕ, ◌+◌, ◌*◌, ◌%◌, Bool, false, cond, ◌&&◌, ◌||◌, List, [], ◌∷◌, eqb, leb, take, Float}
+use Rattle.std.specs.Prelude.{ℕ, ◌+◌, ◌*◌, ◌%◌, Bool, false, cond, ◌&&◌, ◌||◌, List, [], ◌∷◌, eqb, leb, length, take, Float}
 use Rattle.std.specs.Float.{binary32}
 use Rattle.std.specs.Float.Ieee.{round, neg, le}
 use Rattle.limits.specs.declared.Sizes.{Sizes}
@@ -23,6 +23,10 @@ within a b x = between (neg (nearest32 a b)) (nearest32 a b) x
 -- M 1..16384, C exactly 3, R 2..8, N 0..8192
 unfoldable pub sizes_ok : Sizes → Bool
 sizes_ok s = leb 1 s.m && leb s.m 16384 && eqb s.c 3 && leb 2 s.r && leb s.r 8 && leb s.n 8192
+
+-- the lengths of the lists that a search goes by
+abbrev pub tree_lengths : List Float → List ℕ → List ℕ → TreeLengths
+tree_lengths xs left right = record { cartesian = length xs; left = length left; right = length right }
 
 -- Cartesian positions at least 3M, left and right links M each
 unfoldable pub tree_fits : Sizes → TreeLengths → Bool

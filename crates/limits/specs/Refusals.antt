@@ -1,70 +1,63 @@
 -- Document 01's "What a call says no to": its table line by line, and for each call the lines that it checks, in order. Definitions only.
-use Rattle.std.specs.Prelude.{ℕ, ◌-◌, ◌%◌, Bool, cond, not, List, [], ◌∷◌, leb, ltb, length, Float}
+use Rattle.std.specs.Prelude.{ℕ, ◌-◌, ◌%◌, Bool, cond, not, List, [], ◌∷◌, leb, ltb, length, Float, ⊤, Result, Ok, Err}
 use Rattle.std.specs.Float.Ieee.Scale.{finite}
 use Rattle.points.specs.declared.Point3.{Point3}
 use Rattle.limits.specs.declared.Sizes.{Sizes}
 use Rattle.limits.specs.declared.TreeLengths.{TreeLengths}
 use Rattle.limits.specs.declared.Lengths.{Lengths}
-use Rattle.limits.specs.declared.Verdict.{Verdict}
-use Rattle.limits.specs.declared.Verdict.TheVariants.{Fine, Refused}
+use Rattle.refusals.specs.declared.Refusal.{Refusal}
+use Rattle.refusals.specs.declared.Refusal.TheVariants.{UnknownKind, BadSizes, ShortLists, BadPosition, BadAngleStep, BadRadiusStep, BadRate, BadValue, NoMeasurement}
 use Rattle.limits.specs.Allowed.{sizes_ok, tree_fits, load_fits, kind_ok, position_ok, first_bad, angle_step_ok, radius_step_ok, rate_ok}
 
--- a line of the table: its number, whether it is met, and the place then given
+-- a line of the table: the refusal, which has the line's number and place, and whether it is met
 pub record Check : Type 0 where
-  pub number : ℕ
+  pub refusal : Refusal
   pub met : Bool
-  pub place : ℕ
 
--- the first line that is met, else Fine
-unfoldable pub verdict_of : List Check → Verdict
-verdict_of [] = Fine
-verdict_of (c ∷ cs) = cond c.met (Refused c.number c.place) (verdict_of cs)
+abbrev pub line : Refusal → Bool → Check
+line refusal met = record { refusal = refusal; met = met }
 
--- a verdict as 01's numbers: 0 and 0 for none
-abbrev pub reason_of : Verdict → ℕ
-reason_of Fine = 0
-reason_of (Refused number place) = number
+-- the refusal of the first line that is met; Ok where none is
+unfoldable pub verdict_of : List Check → Result ⊤ Refusal
+verdict_of [] = Ok tt
+verdict_of (c ∷ cs) = cond c.met (Err c.refusal) (verdict_of cs)
 
-abbrev pub place_of : Verdict → ℕ
-place_of Fine = 0
-place_of (Refused number place) = place
-
--- ---- the lines: number | met when | place. The rest of 7, single angle calls, is the crate `angles`'; 9 is met on the way by a search
+-- ---- the lines: number | met when | place; number and place are those of the refusal (specs/Refusals.antt of the crate `refusals`). The rest of 7, single angle calls, is the crate `angles`'; 9 is met on the way by a search
 
 -- 1 | position kind is neither 0 (cartesian) nor 1 (spherical) | the kind
 abbrev pub unknown_kind : ℕ → Check
-unknown_kind kind = record { number = 1; met = not (kind_ok kind); place = kind }
+unknown_kind kind = line (UnknownKind kind) (not (kind_ok kind))
 
 -- 2 | M, C, R or N not allowed | 0
 abbrev pub bad_sizes : Sizes → Check
-bad_sizes s = record { number = 2; met = not (sizes_ok s); place = 0 }
+bad_sizes s = line BadSizes (not (sizes_ok s))
 
 -- 3 | a lent list too short, or positions not 3M long | 0
 abbrev pub short_lists : Bool → Check
-short_lists fit = record { number = 3; met = not fit; place = 0 }
+short_lists fit = line ShortLists (not fit)
 
 -- 4 | a position value, of the first n, not allowed | its first index
 abbrev pub bad_value : ℕ → List Float → ℕ → Check
-bad_value kind xs n = record { number = 4; met = ltb (first_bad (position_ok kind) xs n) n; place = first_bad (position_ok kind) xs n }
+bad_value kind xs n = line (BadPosition (first_bad (position_ok kind) xs n)) (ltb (first_bad (position_ok kind) xs n) n)
 
 -- 5 | a step not allowed | 0 angle, 1 radius
 abbrev pub bad_angle_step : Float → Check
-bad_angle_step x = record { number = 5; met = not (angle_step_ok x); place = 0 }
+bad_angle_step x = line BadAngleStep (not (angle_step_ok x))
 
 abbrev pub bad_radius_step : Float → Check
-bad_radius_step x = record { number = 5; met = not (radius_step_ok x); place = 1 }
+bad_radius_step x = line BadRadiusStep (not (radius_step_ok x))
 
 -- 6 | the rate not allowed | 0
 abbrev pub bad_rate : Float → Check
-bad_rate x = record { number = 6; met = not (rate_ok x); place = 0 }
+bad_rate x = line BadRate (not (rate_ok x))
 
 -- 7 | a query coordinate not finite | axis
 abbrev pub not_finite : ℕ → Float → Check
-not_finite axis x = record { number = 7; met = not (finite x); place = axis }
+not_finite axis x = line (BadValue axis) (not (finite x))
 
 -- 8 | a measurement number at or above M | the number
 abbrev pub bad_number : Sizes → ℕ → Check
-bad_number s number = record { number = 8; met = leb s.m number; place = number }
+bad_number s number = line (NoMeasurement number) (leb s.m number)
 
 -- ---- the calls
 

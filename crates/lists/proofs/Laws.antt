@@ -1,13 +1,14 @@
 -- What loops and callers cite of `over` and `upto`, and what holds of each of two lists put together. Assumes nothing.
 use mathlib.Core.Path.{◌≡◌, refl, sym, ap, subst, ◌∙◌}
 use mathlib.Core.Bool.{Bool, true, false}
-use mathlib.Core.List.{List, [], ◌∷◌, ◌++◌}
+use mathlib.Core.List.{List, [], ◌∷◌, ◌++◌, append-nil}
 use Prim.Native.Nat.{ℕ, zero, suc, ◌+◌, ◌≤◌, ◌<◌}
 use native.Mathlib.Nat.{le_of_lt}
 use native.Mathlib.Numerals.{add-one}
 use native.Mathlib.Omega.{arith}
-use lib.ListN.{length, take, drop, get_or, set, replicate, length-append, length-drop, length-replicate, take-append-drop, get_or-append}
+use lib.ListN.{drop_of_length-le, length, take, drop, get_or, set, replicate, length-append, length-drop, length-replicate, take-append-drop, get_or-append}
 use lib.Dec.{ltb}
+use Rattle.std.proofs.lemmas.List.{replicate-append-replicate}
 use lib.Seq.{get_or_at, take-suc, drop-cons, take_at, drop_at, set_at, length-take-le, append_snoc}
 use borrow.Author.Tests.{ltb-true, ltb-false}
 use Rattle.lists.specs.Each.{Each}
@@ -58,15 +59,20 @@ module _ {A : Type 0} where
       over_at (take i s) d i (get_or s i z) (length-take-le i s (le_of_lt hs)) hd
       ∙ ap (λ (l : List A). over l d) (sym (ap (λ (k : ℕ). take k s) (add-one i) ∙ take-suc s i z hs))
 
-  replicate_snoc : (n : ℕ) (v : A) → replicate n v ++ (v ∷ []) ≡ replicate (suc n) v
-  replicate_snoc zero v = refl
-  replicate_snoc (suc n) v = ap (λ (l : List A). v ∷ l) (replicate_snoc n v)
-
   -- a turn of a loop that writes one value
   pub fill_more : (n : ℕ) (v : A) (d : List A) → n < length d → set (over (replicate n v) d) n v ≡ over (replicate (n + 1) v) d
   fill_more n v d h =
       over_at (replicate n v) d n v (length-replicate n v) h
-      ∙ ap (λ (l : List A). over l d) (replicate_snoc n v ∙ ap (λ (k : ℕ). replicate k v) (sym (add-one n)))
+      ∙ ap (λ (l : List A). over l d) (replicate-append-replicate n 1 v)
+
+  -- a front of its own that a loop has filled, i of n turns, all of them done
+  pub over_front : (n i : ℕ) (v : A) (d front : List A) → front ≡ over (replicate i v) (take n d) → n ≤ length d → length (take n d) ≤ i → i ≤ length (take n d) → front ++ drop n d ≡ over (replicate n v) d
+  unfolding over
+  over_front n i v d front e h a b =
+      let t : length (take n d) ≡ n = length-take-le n d h in
+      let q : i ≡ n = omega arith in
+      let none : drop (length (replicate n v)) (take n d) ≡ [] = drop_of_length-le (take n d) (let w = length-replicate n v in omega arith) in
+      rw (e, q, none, append-nil (replicate n v), length-replicate n v) refl
 
   pub length_upto : (f : ℕ → A) (n : ℕ) → length (upto f n) ≡ n
   unfolding upto

@@ -1,10 +1,10 @@
--- NO ANGLE OF A LOAD IS REFUSED: whatever `load` answers Ready to, each use of an angle is one that `sine`, `cosine` and `arctangent` answer. Assumes nothing.
+-- NO ANGLE OF A LOAD IS REFUSED: whatever `load` accepts, each use of an angle is one that `sine`, `cosine` and `arctangent` answer. Assumes nothing.
 use mathlib.Core.Path.{◌≡◌, sym, subst}
 use Prim.Native.Nat.{ℕ, ◌+◌, ◌*◌, ◌<◌}
 use native.Mathlib.Omega.{arith}
 use lib.ListN.{length}
+use Rattle.std.specs.Prelude.{Ok}
 use Rattle.points.specs.Points.{point_at}
-use Rattle.limits.specs.declared.Verdict.TheVariants.{Fine}
 use Rattle.limits.proofs.Passed.{Allowed}
 use Rattle.lookup.specs.declared.Lookup.{Lookup}
 use Rattle.coords.specs.Arrays.{lifted}
@@ -13,7 +13,6 @@ use Rattle.coord_laws.specs.Answered.{ToCartesian}
 use Rattle.coord_laws.proofs.Answered.{triplet_answered}
 use Rattle.neighbor_laws.specs.Answered.{SearchAnswered}
 use Rattle.neighbor_laws.proofs.Answered.{search_answered}
-use Rattle.loads.specs.declared.Loaded.TheVariants.{Ready}
 use Rattle.loads.specs.Load.{Load, indexed}
 use Rattle.load_laws.specs.Load.{Given, judged, loaded}
 use Rattle.load_laws.specs.Domain.{Domain}
@@ -24,7 +23,7 @@ use Rattle.load_laws.proofs.Loaded.{says, went}
 use Rattle.load_laws.proofs.Load.{ready_fine}
 use Rattle.load_laws.proofs.Domain.{accepts}
 
-module _ (g : Given) (fine : judged g ≡ Fine) where
+module _ (g : Given) (fine : judged g ≡ Ok tt) where
   -- the three values of a measurement stand in the list of positions
   within_list : (k : ℕ) → k < g.sizes.m → 3 * k + 2 < length g.positions
   within_list k h = let z = (went g fine).room.exact in omega arith
@@ -46,7 +45,7 @@ module _ (g : Given) (fine : judged g ≡ Fine) where
   fine_answered = record { converted = converted; bounds = λ k h. (searched k h).start; searched = searched }
 
 -- EVERY ANGLE OF A LOAD THAT IS NOT REFUSED IS ANSWERED
-pub angles_answered : (g : Given) (look : Lookup) → (loaded g).answer ≡ Ready look → AnglesAnswered g
+pub angles_answered : (g : Given) (look : Lookup) → (loaded g).answer ≡ Ok look → AnglesAnswered g
 angles_answered g look e = fine_answered g (ready_fine g look e)
 
 -- and so every one over document 01's domain

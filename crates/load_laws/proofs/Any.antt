@@ -9,17 +9,17 @@ use lib.Dec.{leb, eqb}
 use lib.ListN.{length, take, get_or}
 use lib.Ieee.Scale.{finite}
 use lib.Ieee.{Float, nan, binary32, add, sub, mul, rem, neg, lt}
+use Rattle.std.specs.Prelude.{Ok, Err}
 use Rattle.floats.specs.Floats.{zero32, abs_of, min_of, max_of}
 use Rattle.points.specs.declared.Point3.{Point3}
 use Rattle.points.specs.Points.{point_at}
 use Rattle.root.specs.Root.{root_of}
-use Rattle.limits.specs.declared.Verdict.TheVariants.{Fine}
 use Rattle.limits.specs.Allowed.{kind_ok, cartesian_ok, angle_ok, radius_ok, position_ok, angle_step_ok}
 use Rattle.limits.specs.Refusals.{triplets}
 use Rattle.limits.proofs.Passed.{Allowed, values_passed}
 use Rattle.lookup.specs.declared.Lookup as port
 use Rattle.sines.specs.Sines.{plus_zero, in_range, sine_steps, cosine_steps}
-use Rattle.angles.specs.declared.AngleAnswer.TheVariants.{Value, Refused}
+use Rattle.refusals.specs.declared.Refusal.TheVariants.{BadValue}
 use Rattle.angles.specs.Arc.{arctan_steps}
 use Rattle.angles.specs.Says.{sin_of, cos_of, atan2_of, sine_says, cosine_says, arctan_says}
 use Rattle.coords.specs.declared.Spherical.{Spherical}
@@ -30,7 +30,6 @@ use Rattle.coord_laws.proofs.Inside.{list_copied}
 use Rattle.coord_laws.proofs.Answered.{triplet_answered, spherical_answered}
 use Rattle.neighbors.specs.Neighbors.{after, tilted, distant, moved, steps, step_of, angle_cap, cap_of}
 use Rattle.neighbor_laws.specs.Answered.{SearchAnswered}
-use Rattle.loads.specs.declared.Loaded.TheVariants.{Ready}
 use Rattle.loads.specs.Load.{indexed}
 use Rattle.source.specs.Rust.{Option, None, Some, Angles, array}
 use Rattle.source.specs.Coords.{cartesian_to_spherical, spherical_to_cartesian, convert_array_to_spherical, convert_array_to_cartesian}
@@ -55,20 +54,14 @@ use Rattle.load_laws.proofs.Angles.{place_searched}
 
 -- ---- the port's own are such functions
 
-value_is : (s v : Float) → Value s ≡ Value v → s ≡ v
-value_is s v e = cc
+one_test : (b : Bool) (s v : Float) → cond b (Ok s) (Err (BadValue 0)) ≡ Ok v → cond b s plus_zero ≡ v
+one_test true s v e = cc
+one_test false s v e = cc
 
-no_value : (n p : ℕ) (v : Float) → Refused n p ≡ Value v → ⊥
-no_value n p v e = let z : ◌≡◌ {A = ℕ} 0 1 = cc in omega arith
-
-one_test : (b : Bool) (s v : Float) → cond b (Value s) (Refused 7 0) ≡ Value v → cond b s plus_zero ≡ v
-one_test true s v e = value_is s v e
-one_test false s v e = absurd (no_value 7 0 v e)
-
-two_tests : (a b : Bool) (s v : Float) → cond a (cond b (Value s) (Refused 7 1)) (Refused 7 0) ≡ Value v → cond (a && b) s plus_zero ≡ v
-two_tests true true s v e = value_is s v e
-two_tests true false s v e = absurd (no_value 7 1 v e)
-two_tests false b s v e = absurd (no_value 7 0 v e)
+two_tests : (a b : Bool) (s v : Float) → cond a (cond b (Ok s) (Err (BadValue 1))) (Err (BadValue 0)) ≡ Ok v → cond (a && b) s plus_zero ≡ v
+two_tests true true s v e = cc
+two_tests true false s v e = cc
+two_tests false b s v e = cc
 
 pub ported_agree : Agree ported
 unfolding sin_of cos_of atan2_of sine_says cosine_says arctan_says
@@ -255,7 +248,7 @@ module _ (platform : Angles) (A : Agree platform) where
   positions_any zero xs m known e a = refl
   positions_any (suc k) xs m known e a = list_to_cartesian xs m (subst (λ (n : ℕ). Allowed 1 xs n) e (subst (λ (j : ℕ). Allowed (suc j) xs (length xs)) (one_of k known) a)) (omega arith)
 
-  module _ (g : Given) (fine : judged g ≡ Fine) where
+  module _ (g : Given) (fine : judged g ≡ Ok tt) where
     abbrev placed : Hrtf
     placed = hrtf (set_in g (done g).work)
 
@@ -287,7 +280,7 @@ module _ (platform : Angles) (A : Agree platform) where
         ∙ sym (ap (λ (h : Hrtf). opened ported h g.angle g.radius) (converts g fine))
 
   -- WHATEVER A LOAD ACCEPTS
-  pub any_angles : (g : Given) (look : port.Lookup) → (loaded g).answer ≡ Ready look → OpensWithAny platform g
+  pub any_angles : (g : Given) (look : port.Lookup) → (loaded g).answer ≡ Ok look → OpensWithAny platform g
   any_angles g look e = fine_opens g (ready_fine g look e)
 
   -- DEMAND 2 WITH ANY OF THEM, for every input in document 01's domain: the set that the source opens is the one that `load` leaves (`demand_2`)

@@ -6,18 +6,17 @@ use native.Mathlib.Omega.{arith}
 use lib.Dec.{T, eqb}
 use lib.ListN.{length}
 use lib.Ieee.Scale.{finite}
+use Rattle.std.specs.Prelude.{Ok}
 use Rattle.floats.proofs.Cross.{and_left, and_right}
 use borrow.Author.Tests.{not-false, lt-leb}
 use Rattle.lists.specs.Over.{over, upto}
 use Rattle.lists.proofs.Laws.{length_over, length_upto}
 use Rattle.points.specs.declared.Point3.{Point3}
 use Rattle.points.specs.Points.{Finite}
-use Rattle.limits.specs.declared.Verdict.TheVariants.{Fine}
-use Rattle.limits.specs.Allowed.{sizes_ok, tree_fits, responses_fit, neighbours_fit, plain_fits, blend_fits, load_fits}
+use Rattle.limits.specs.Allowed.{tree_lengths, sizes_ok, tree_fits, responses_fit, neighbours_fit, plain_fits, blend_fits, load_fits}
 use Rattle.limits.specs.Refusals.{verdict_of, query_lines, find_lines, filter_lines, number_lines, rated_lines, rate_lines}
-use Rattle.limits.proofs.Lines.{passed, Unmet, done, more, unmet→fine}
+use Rattle.limits.proofs.Lines.{passed, Unmet, done, more, unmet→ok}
 use Rattle.lookup.specs.Build.{linked}
-use Rattle.lookup.specs.Lookup.{tree_lengths}
 use Rattle.lookup.proofs.Links.{linked_left_lem, linked_right_lem}
 use Rattle.reader.specs.Queries.{lengths_of}
 use Rattle.loads.specs.Load.{Work, cartesian_from, indexed, lengths_in}
@@ -33,7 +32,7 @@ unmet_finite false h = absurd h
 query_unmet : (q : Point3) → Finite q → Unmet (query_lines q)
 query_unmet q f = more (unmet_finite (finite q.x) f.x) (more (unmet_finite (finite q.y) f.y) (more (unmet_finite (finite q.z) f.z) done))
 
-module _ (g : Given) (fine : judged g ≡ Fine) where
+module _ (g : Given) (fine : judged g ≡ Ok tt) where
   abbrev w : Work
   w = (after.done g).work
 
@@ -92,23 +91,23 @@ module _ (g : Given) (fine : judged g ≡ Fine) where
 
   -- ---- THE CALLS ARE NOT REFUSED
 
-  pub find_fine : (q : Point3) → Finite q → verdict_of (find_lines g.sizes (tree_lengths w.cartesian w.left w.right) q) ≡ Fine
-  find_fine q f = unmet→fine _ (more sizes_unmet (more (ap not tree_fits_lem) (query_unmet q f)))
+  pub find_fine : (q : Point3) → Finite q → verdict_of (find_lines g.sizes (tree_lengths w.cartesian w.left w.right) q) ≡ Ok tt
+  find_fine q f = unmet→ok _ (more sizes_unmet (more (ap not tree_fits_lem) (query_unmet q f)))
 
-  pub filter_fine : (q : Point3) → Finite q → verdict_of (filter_lines g.sizes (blend_fits g.sizes (lengths_of w.cartesian w.left w.right g.responses w.neighbours)) g.rate q) ≡ Fine
-  filter_fine q f = unmet→fine _ (more sizes_unmet (more (ap not blend_fits_lem) (more (ap not (went g fine).rated) (query_unmet q f))))
+  pub filter_fine : (q : Point3) → Finite q → verdict_of (filter_lines g.sizes (blend_fits g.sizes (lengths_of w.cartesian w.left w.right g.responses w.neighbours)) g.rate q) ≡ Ok tt
+  filter_fine q f = unmet→ok _ (more sizes_unmet (more (ap not blend_fits_lem) (more (ap not (went g fine).rated) (query_unmet q f))))
 
-  pub plain_fine : (q : Point3) → Finite q → verdict_of (filter_lines g.sizes (plain_fits g.sizes (tree_lengths w.cartesian w.left w.right) (length g.responses)) g.rate q) ≡ Fine
-  plain_fine q f = unmet→fine _ (more sizes_unmet (more (ap not plain_fits_lem) (more (ap not (went g fine).rated) (query_unmet q f))))
+  pub plain_fine : (q : Point3) → Finite q → verdict_of (filter_lines g.sizes (plain_fits g.sizes (tree_lengths w.cartesian w.left w.right) (length g.responses)) g.rate q) ≡ Ok tt
+  plain_fine q f = unmet→ok _ (more sizes_unmet (more (ap not plain_fits_lem) (more (ap not (went g fine).rated) (query_unmet q f))))
 
-  pub number_fine : (k : ℕ) → k < g.sizes.m → verdict_of (rated_lines g.sizes (responses_fit g.sizes (length g.responses)) g.rate k) ≡ Fine
-  number_fine k h = unmet→fine _ (more sizes_unmet (more (ap not responses_fit_lem) (more (ap not (went g fine).rated) (more (lt-leb g.sizes.m k h) done))))
+  pub number_fine : (k : ℕ) → k < g.sizes.m → verdict_of (rated_lines g.sizes (responses_fit g.sizes (length g.responses)) g.rate k) ≡ Ok tt
+  number_fine k h = unmet→ok _ (more sizes_unmet (more (ap not responses_fit_lem) (more (ap not (went g fine).rated) (more (lt-leb g.sizes.m k h) done))))
 
-  pub response_fine : (k : ℕ) → k < g.sizes.m → verdict_of (number_lines g.sizes (responses_fit g.sizes (length g.responses)) k) ≡ Fine
-  response_fine k h = unmet→fine _ (more sizes_unmet (more (ap not responses_fit_lem) (more (lt-leb g.sizes.m k h) done)))
+  pub response_fine : (k : ℕ) → k < g.sizes.m → verdict_of (number_lines g.sizes (responses_fit g.sizes (length g.responses)) k) ≡ Ok tt
+  response_fine k h = unmet→ok _ (more sizes_unmet (more (ap not responses_fit_lem) (more (lt-leb g.sizes.m k h) done)))
 
-  pub around_fine : (k : ℕ) → k < g.sizes.m → verdict_of (number_lines g.sizes (neighbours_fit g.sizes (length w.neighbours)) k) ≡ Fine
-  around_fine k h = unmet→fine _ (more sizes_unmet (more (ap not near_fits) (more (lt-leb g.sizes.m k h) done)))
+  pub around_fine : (k : ℕ) → k < g.sizes.m → verdict_of (number_lines g.sizes (neighbours_fit g.sizes (length w.neighbours)) k) ≡ Ok tt
+  around_fine k h = unmet→ok _ (more sizes_unmet (more (ap not near_fits) (more (lt-leb g.sizes.m k h) done)))
 
-  pub rate_fine : verdict_of (rate_lines g.rate) ≡ Fine
-  rate_fine = unmet→fine _ (more (ap not (went g fine).rated) done)
+  pub rate_fine : verdict_of (rate_lines g.rate) ≡ Ok tt
+  rate_fine = unmet→ok _ (more (ap not (went g fine).rated) done)

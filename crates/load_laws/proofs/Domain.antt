@@ -9,13 +9,12 @@ use lib.ListN.{length, get_or}
 use lib.Ieee.{Float, nan, le}
 use borrow.Author.Tests.{ltb-true, eqb-true, eqb-false, le-leb, eq-eqb}
 use lib.Ieee.Bits.{is_true}
+use Rattle.std.specs.Prelude.{Ok}
 use Rattle.floats.proofs.Cross.{both}
-use Rattle.limits.specs.declared.Verdict.TheVariants.{Fine}
 use Rattle.limits.specs.Allowed.{between, within, sizes_ok, tree_fits, responses_fit, neighbours_fit, plain_fits, blend_fits, load_fits, cartesian_ok, angle_ok, radius_ok, position_ok, first_bad, angle_step_ok, radius_step_ok, rate_ok}
-use Rattle.limits.proofs.Lines.{done, more, unmet→fine}
+use Rattle.limits.proofs.Lines.{done, more, unmet→ok}
 use Rattle.limits.proofs.Values.{known, bad_there}
 use Rattle.loads.specs.Load.{lengths_in}
-use Rattle.loads.specs.declared.Loaded.TheVariants.{Ready}
 use Rattle.source_laws.specs.Same.{look}
 use Rattle.load_laws.specs.Load.{Given, judged, loaded, set_in, LoadsAsSource}
 use Rattle.load_laws.specs.Domain.{Between, Position, Domain}
@@ -45,7 +44,7 @@ values_allowed kind xs n known room allowed = go (ltb bad n) refl
     bad = first_bad (position_ok kind) xs n
 
     no : {b : Bool} → b ≡ true → b ≡ false → ⊥
-    no p q = let z : ◌≡◌ {A = ℕ} 0 1 = cc in omega arith
+    no p q = cc
 
     go : (b : Bool) → ltb bad n ≡ b → b ≡ false
     go false e = refl
@@ -67,9 +66,9 @@ module _ (g : Given) (D : Domain g) where
   values_ok_lem : ltb (first_bad (position_ok g.kind) g.positions (length g.positions)) (length g.positions) ≡ false
   values_ok_lem = values_allowed g.kind g.positions (length g.positions) D.kind (omega arith) D.values
 
-  fine : judged g ≡ Fine
+  fine : judged g ≡ Ok tt
   fine =
-      unmet→fine _ (more (ap not (known g.kind D.kind)) (more (ap not sizes_ok_lem) (more (ap not lists_fit) (more values_ok_lem
+      unmet→ok _ (more (ap not (known g.kind D.kind)) (more (ap not sizes_ok_lem) (more (ap not lists_fit) (more values_ok_lem
       (more (ap not angle_ok_lem) (more (ap not radius_ok_lem) (more (ap not rate_ok_lem) done)))))))
     where
       angle_ok_lem : angle_step_ok g.angle ≡ true
@@ -82,7 +81,7 @@ module _ (g : Given) (D : Domain g) where
       rate_ok_lem = unfold rate_ok in between_true _ _ g.rate D.rate
 
   -- LOAD ACCEPTS ALL OF THE DOMAIN
-  pub accepts : (loaded g).answer ≡ Ready (look (set_in g (loaded g).work))
+  pub accepts : (loaded g).answer ≡ Ok (look (set_in g (loaded g).work))
   accepts = accepted g fine
 
   -- DEMAND 2, for every input in document 01's domain

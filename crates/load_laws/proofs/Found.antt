@@ -5,13 +5,13 @@ use Prim.Native.Nat.{ℕ, ◌<◌}
 use native.Mathlib.Omega.{arith}
 use lib.ListN.{length}
 use lib.Ieee.{Float}
+use Rattle.std.specs.Prelude.{⊤, Result, Ok}
+use Rattle.refusals.specs.declared.Refusal.{Refusal}
 use Rattle.lists.specs.Over.{over}
 use Rattle.points.specs.declared.Point3.{Point3}
 use Rattle.points.specs.Points.{point_at, Finite}
 use Rattle.points.proofs.Distance.{dist_number}
 use Rattle.coords.specs.Moderate.{Moderate}
-use Rattle.limits.specs.declared.Verdict.{Verdict}
-use Rattle.limits.specs.declared.Verdict.TheVariants.{Fine}
 use Rattle.lookup.specs.declared.Lookup.{Lookup}
 use Rattle.lookup.specs.declared.Located.{Located}
 use Rattle.lookup.specs.declared.Located.TheVariants.{At}
@@ -22,7 +22,6 @@ use Rattle.lookup_laws.proofs.Loaded.{never_refused}
 use Rattle.lookup_laws.proofs.Nearest as nearest
 use Rattle.lookup_laws.proofs.Bounds.{loaded_radii}
 use Rattle.lookup_laws.proofs.Clamp.{clamped_finite}
-use Rattle.loads.specs.declared.Loaded.TheVariants.{Ready}
 use Rattle.loads.specs.Load.{Work, Load, indexed}
 use Rattle.loads.proofs.Bare.{enough}
 use Rattle.source_laws.specs.Same as set
@@ -36,7 +35,7 @@ use Rattle.load_laws.proofs.Checks.{find_fine}
 use Rattle.load_laws.proofs.Load.{ready_fine, from_load}
 use Rattle.load_laws.proofs.Domain.{accepts}
 
-module _ (g : Given) (fine : judged g ≡ Fine) (q : Point3) (f : Finite q) where
+module _ (g : Given) (fine : judged g ≡ Ok tt) (q : Point3) (f : Finite q) where
   abbrev w : Work
   w = (after.done g).work
 
@@ -76,7 +75,7 @@ module _ (g : Given) (fine : judged g ≡ Fine) (q : Point3) (f : Finite q) wher
 
   finds : port_find g w look q ≡ At B.number
   unfolding indexed find_of unless
-  finds = ap (λ (v : Verdict). unless v located) (find_fine g fine q f) ∙ B.is
+  finds = ap (λ (v : Result ⊤ Refusal). unless v located) (find_fine g fine q f) ∙ B.is
 
   finds_nearest : FindsNearest g w (set.look (set_in g w)) q
   unfolding indexed
@@ -92,7 +91,7 @@ module _ (g : Given) (fine : judged g ≡ Fine) (q : Point3) (f : Finite q) wher
   }
 
 -- FROM A LOAD THAT ANSWERED AND A FINITE QUERY, nothing else
-pub found : (g : Given) (look : Lookup) → (loaded g).answer ≡ Ready look → (q : Point3) → Finite q → FindsNearest g (loaded g).work look q
+pub found : (g : Given) (look : Lookup) → (loaded g).answer ≡ Ok look → (q : Point3) → Finite q → FindsNearest g (loaded g).work look q
 found g look e q f =
     let fine = ready_fine g look e in
     subst (λ (k : Lookup). FindsNearest g (loaded g).work k q) (sym (from_load g look e).looks)

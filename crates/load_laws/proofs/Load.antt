@@ -1,17 +1,17 @@
 -- THE THEOREM: what a load leaves and what each later call answers is the source's (specs/Load.antt). Assumes nothing.
 use mathlib.Core.Path.{◌≡◌, refl, sym, ap, ◌∙◌, subst}
-use mathlib.Core.List.{List, [], ◌∷◌}
+use mathlib.Core.List.{List}
 use Prim.Native.Nat.{ℕ, ◌+◌, ◌*◌, ◌<◌}
 use native.Mathlib.Omega.{arith}
 use lib.ListN.{length, take, drop}
-use lib.Ieee.{Float, binary32, div}
-use Rattle.floats.specs.Floats.{zero32, max_of}
+use lib.Ieee.{Float}
+use Rattle.std.specs.Prelude.{⊤, Result, Ok}
+use Rattle.std.specs.Result.{result_and}
+use Rattle.refusals.specs.declared.Refusal.{Refusal}
 use Rattle.lists.specs.Over.{over, upto}
 use Rattle.lists.proofs.Laws.{take_over, drop_over, length_upto}
 use Rattle.points.specs.declared.Point3.{Point3}
 use Rattle.points.specs.Points.{Finite}
-use Rattle.limits.specs.declared.Verdict.{Verdict}
-use Rattle.limits.specs.declared.Verdict.TheVariants.{Fine}
 use Rattle.lookup.specs.declared.Lookup.{Lookup}
 use Rattle.lookup.specs.declared.Located.{Located}
 use Rattle.lookup.specs.declared.Located.TheVariants.{At}
@@ -22,12 +22,10 @@ use Rattle.mix.specs.Mix.{start_of}
 use Rattle.interpolate.specs.Blend.{FilterAnswer, extract_of}
 use Rattle.delays.specs.Delays.{seconds_of}
 use Rattle.interpolate.specs.Blend as port
-use Rattle.stored.specs.declared.Around.TheVariants.{Six}
-use Rattle.stored.specs.declared.MaxDelay.TheVariants.{Delay}
-use Rattle.stored.specs.Longest.{greatest, longest_of, max_by, max_delay_of}
+use Rattle.stored.specs.declared.Entries.{Entries}
+use Rattle.stored.specs.Longest.{longest_of, max_delay_of}
 use Rattle.reader.specs.Queries.{allowed, nearest_or, filter_says, plain_says, number_says}
-use Rattle.stored.specs.Numbers.{part_by, part_of, taps_in, response_of, around_by, around_of, entries_of}
-use Rattle.loads.specs.declared.Loaded.TheVariants.{Ready}
+use Rattle.stored.specs.Numbers.{part_of, taps_in, response_of, around_of, entries_of}
 use Rattle.loads.specs.Load.{Work, Load, cartesian_from, indexed, load_of}
 use Rattle.loads.proofs.Ways.{as_long, fine_by}
 use Rattle.source.specs.Rust.{Some}
@@ -35,7 +33,7 @@ use Rattle.source.specs.Lookup.{Hrtf}
 use Rattle.source.specs.Hrtf.{convert_to_cartesian}
 use Rattle.source.specs.Interpolate.{InterpolatedFilter, extract_filter, get_filter_nointerp}
 use Rattle.source.specs.Reader as source
-use Rattle.source.specs.Reader.{opened, open_data, filter, filter_nointerp, filled_or, fold_max, max_delay}
+use Rattle.source.specs.Reader.{opened, open_data, filter, filter_nointerp, filled_or, max_delay}
 use Rattle.source_laws.specs.Drawn.{ported, heard}
 use Rattle.source_laws.specs.Way.{exactly, way_in, told}
 use Rattle.source_laws.specs.Same as set
@@ -49,16 +47,11 @@ use Rattle.load_laws.proofs.Loaded.{says, went, is_loaded}
 use Rattle.load_laws.proofs.Checks.{find_fine, filter_fine, plain_fine, number_fine, response_fine, around_fine, rate_fine}
 
 -- past the checks, at the number found
-past : (v : Verdict) (r : Located) (a b : ℕ) (f : ℕ → FilterAnswer) (k : ℕ) → v ≡ Fine → r ≡ At k → allowed v a b (nearest_or r a b f) ≡ f k
+past : (v : Result ⊤ Refusal) (r : Located) (a b : ℕ) (f : ℕ → FilterAnswer) (k : ℕ) → v ≡ Ok tt → r ≡ At k → allowed v a b (nearest_or r a b f) ≡ f k
 unfolding allowed nearest_or
-past v r a b f k e h = ap (λ (w : Verdict). allowed w a b (nearest_or r a b f)) e ∙ ap (λ (z : Located). nearest_or z a b f) h
+past v r a b f k e h = ap (λ (w : Result ⊤ Refusal). allowed w a b (nearest_or r a b f)) e ∙ ap (λ (z : Located). nearest_or z a b f) h
 
-fold_same : (a : Float) (l : List Float) → greatest a l ≡ fold_max a l
-unfolding greatest fold_max
-fold_same a [] = refl
-fold_same a (x ∷ l) = fold_same (max_of a x) l
-
-module _ (g : Given) (fine : judged g ≡ Fine) where
+module _ (g : Given) (fine : judged g ≡ Ok tt) where
   abbrev w : Work
   w = (after.done g).work
 
@@ -110,7 +103,7 @@ module _ (g : Given) (fine : judged g ≡ Fine) where
 
   finds : (q : Point3) → Finite q → port_find g w look q ≡ At (same.number q)
   unfolding find_of unless
-  finds q f = ap (λ (v : Verdict). unless v (found q)) (find_fine g fine q f) ∙ same.port_finds q
+  finds q f = ap (λ (v : Result ⊤ Refusal). unless v (found q)) (find_fine g fine q f) ∙ same.port_finds q
 
   moves : (l : List Float) → Finite (point_in l) → port_find_mut g w look l ≡ moved_as (At (same.number (point_in l))) (put_point l (clamped_by look (point_in l)))
   unfolding find_mut_of moved_if_found
@@ -135,15 +128,14 @@ module _ (g : Given) (fine : judged g ≡ Fine) where
   by_number : (k : ℕ) → k < g.sizes.m → (out : source.Filter) → port_number g k out ≡ told exactly (filled_or same.sofar out (get_filter_nointerp same.sofar.hrtf k))
   unfolding number_says allowed
   by_number k h out =
-      ap (λ (v : Verdict). allowed v (length out.left) (length out.right) (set.plain s out k)) (number_fine g fine k h)
+      ap (λ (v : Result ⊤ Refusal). allowed v (length out.left) (length out.right) (set.plain s out k)) (number_fine g fine k h)
       ∙ plain_told out k ∙ ap (told exactly) (sym (same.by_number k h out))
 
-  longest : max_delay_of g.delays g.rate ≡ Delay (record { 0 = max_delay same.sofar })
+  longest : max_delay_of g.delays g.rate ≡ Ok (record { 0 = max_delay same.sofar })
   unfolding max_delay_of max_delay
   longest =
-      ap (λ (v : Verdict). max_by v (seconds_of (longest_of g.delays) g.rate)) (rate_fine g fine)
-      ∙ ap (λ (x : Float). Delay (record { 0 = div binary32 x g.rate })) (fold_same zero32 g.delays)
-      ∙ ap (λ (h : Hrtf). Delay (record { 0 = div binary32 (fold_max zero32 h.data_delay) h.sample_rate })) (sym same.of_set)
+      ap (λ (v : Result ⊤ Refusal). result_and v (Ok (seconds_of (longest_of g.delays) g.rate))) (rate_fine g fine)
+      ∙ ap (λ (h : Hrtf). Ok (seconds_of (longest_of h.data_delay) h.sample_rate)) (sym same.of_set)
 
   -- ---- responses and neighbours
 
@@ -160,14 +152,17 @@ module _ (g : Given) (fine : judged g ≡ Fine) where
   response : (k e a : ℕ) → k < g.sizes.m → a ≡ start_of g.sizes.r g.sizes.n e k → response_of g.sizes g.responses k e ≡ take g.sizes.n (drop a g.responses)
   unfolding part_of taps_in
   response k e a h ea =
-      ap (λ (v : Verdict). taps_in (part_by v (start_of g.sizes.r g.sizes.n e k) g.sizes.n) g.responses) (response_fine g fine k h)
+      ap (λ (v : Result ⊤ Refusal). taps_in (result_and v (Ok (record { start = start_of g.sizes.r g.sizes.n e k; count = g.sizes.n }))) g.responses) (response_fine g fine k h)
       ∙ ap (λ (b : ℕ). take g.sizes.n (drop b g.responses)) (sym ea)
 
-  around : (k : ℕ) → k < g.sizes.m → around_of g.sizes w.neighbours k ≡ Six (listed_six (same.row k))
+  abbrev listed_as : Entries → Result Entries Refusal
+  listed_as e = Ok e
+
+  around : (k : ℕ) → k < g.sizes.m → around_of g.sizes w.neighbours k ≡ Ok (listed_six (same.row k))
   unfolding around_of
   around k h =
-      ap (λ (v : Verdict). around_by v (entries_of w.neighbours k)) (around_fine g fine k h)
-      ∙ ap (λ (e : port.Neighbors). Six (record { phi_plus = e.phi_plus; phi_minus = e.phi_minus; theta_plus = e.theta_plus; theta_minus = e.theta_minus; radius_plus = e.radius_plus; radius_minus = e.radius_minus }))
+      ap (λ (v : Result ⊤ Refusal). result_and v (Ok (entries_of w.neighbours k))) (around_fine g fine k h)
+      ∙ ap (λ (e : port.Neighbors). listed_as (record { phi_plus = e.phi_plus; phi_minus = e.phi_minus; theta_plus = e.theta_plus; theta_minus = e.theta_minus; radius_plus = e.radius_plus; radius_minus = e.radius_minus }))
       (same.entries k h)
 
   -- ---- past the front of a list
@@ -222,24 +217,24 @@ module _ (g : Given) (fine : judged g ≡ Fine) where
 
 -- ---- the two premises
 
--- where `load` answers Ready no line of the table is met
-pub ready_fine : (g : Given) (look : Lookup) → (loaded g).answer ≡ Ready look → judged g ≡ Fine
+-- where `load` answers Ok no line of the table is met
+pub ready_fine : (g : Given) (look : Lookup) → (loaded g).answer ≡ Ok look → judged g ≡ Ok tt
 unfolding load_of
 ready_fine g look e = fine_by (judged g) (after.done g) g.work look e
 
 -- LOAD ACCEPTS every input of which no line of the table is met
-pub accepted : (g : Given) → judged g ≡ Fine → (loaded g).answer ≡ Ready (set.look (set_in g (loaded g).work))
-accepted g fine = subst (λ (l : Load). l.answer ≡ Ready (set.look (set_in g l.work))) (sym (says g fine)) here
+pub accepted : (g : Given) → judged g ≡ Ok tt → (loaded g).answer ≡ Ok (set.look (set_in g (loaded g).work))
+accepted g fine = subst (λ (l : Load). l.answer ≡ Ok (set.look (set_in g l.work))) (sym (says g fine)) here
   where
-    here : (after.done g).answer ≡ Ready (set.look (set_in g (after.done g).work))
+    here : (after.done g).answer ≡ Ok (set.look (set_in g (after.done g).work))
     here = unfold indexed in refl
 
--- DEMAND 2: whatever `load` answers Ready to, what it left and what later calls answer is the source's
-pub from_load : (g : Given) (look : Lookup) → (loaded g).answer ≡ Ready look → LoadsAsSource g (loaded g).work look
+-- DEMAND 2: whatever `load` accepts, what it left and what later calls answer is the source's
+pub from_load : (g : Given) (look : Lookup) → (loaded g).answer ≡ Ok look → LoadsAsSource g (loaded g).work look
 from_load g look e =
     let fine = ready_fine g look e in
     let el : set.look (set_in g (loaded g).work) ≡ look = ready (accepted g fine) in
     subst (LoadsAsSource g (loaded g).work) el (subst (λ (l : Load). LoadsAsSource g l.work (set.look (set_in g l.work))) (sym (says g fine)) (as_source g fine))
   where
-    ready : {l : Lookup} → (loaded g).answer ≡ Ready l → l ≡ look
+    ready : {l : Lookup} → (loaded g).answer ≡ Ok l → l ≡ look
     ready h = cc

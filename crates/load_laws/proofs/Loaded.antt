@@ -4,9 +4,9 @@ use mathlib.Core.List.{List}
 use native.Mathlib.Omega.{arith}
 use lib.ListN.{length}
 use lib.Ieee.{Float}
+use Rattle.std.specs.Prelude.{⊤, Result, Ok}
+use Rattle.refusals.specs.declared.Refusal.{Refusal}
 use Rattle.lists.specs.Over.{over}
-use Rattle.limits.specs.declared.Verdict.{Verdict}
-use Rattle.limits.specs.declared.Verdict.TheVariants.{Fine}
 use Rattle.limits.proofs.Passed.{LoadPassed, load_passed}
 use Rattle.lookup.specs.Build.{links_of, build_of}
 use Rattle.neighbors.specs.Neighbors.{Tabled}
@@ -25,10 +25,10 @@ done g = indexed g.sizes.m g.angle g.radius (placed_in g.kind g.positions g.work
 abbrev pub cart : Given → List Float
 cart g = over (cartesian_from g.kind g.positions) g.work.cartesian
 
-module _ (g : Given) (fine : judged g ≡ Fine) where
+module _ (g : Given) (fine : judged g ≡ Ok tt) where
   pub says : loaded g ≡ done g
   unfolding load_of load_by
-  says = ap (λ (v : Verdict). load_by v (done g) g.work) fine
+  says = ap (λ (v : Result ⊤ Refusal). load_by v (done g) g.work) fine
 
   pub went : LoadPassed g.kind g.sizes (lengths_in (length g.responses) g.work) g.positions g.angle g.radius g.rate
   went = load_passed g.kind g.sizes (lengths_in (length g.responses) g.work) g.positions g.angle g.radius g.rate fine

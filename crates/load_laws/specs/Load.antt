@@ -2,20 +2,18 @@
 -- the theorem `from_load` is in proofs/Load.antt.
 -- The source's side is the crate source's, with the port's sine, cosine and arctangent; the port's side is the definitions that the contracts of `load` and of
 -- the calls cite. All is bit for bit; NaN is one value. Where `min` and `max` meet +0 and -0, Rust leaves the sign open: the transcription keeps the earlier.
-use Rattle.std.specs.Prelude.{◌≡◌, List, ℕ, zero, suc, ◌*◌, ◌<◌, length, take, drop, Float}
+use Rattle.std.specs.Prelude.{◌≡◌, List, ℕ, zero, suc, ◌*◌, ◌<◌, length, take, drop, Float, ⊤, Result, Ok}
+use Rattle.refusals.specs.declared.Refusal.{Refusal}
 use Rattle.points.specs.declared.Point3.{Point3}
 use Rattle.points.specs.Points.{Finite}
 use Rattle.limits.specs.declared.Sizes.{Sizes}
-use Rattle.limits.specs.declared.Verdict.{Verdict}
 use Rattle.limits.specs.Refusals.{verdict_of, load_lines}
 use Rattle.lookup.specs.declared.Lookup.{Lookup}
 use Rattle.lookup.specs.declared.Located.{Located}
 use Rattle.lookup.specs.declared.Located.TheVariants.{At}
 use Rattle.lookup.specs.Lookup.{Moved, moved_as, point_in, put_point, find_of, find_mut_of}
 use Rattle.interpolate.specs.Blend.{FilterAnswer}
-use Rattle.stored.specs.declared.MaxDelay.TheVariants.{Delay}
 use Rattle.stored.specs.declared.Entries.{Entries}
-use Rattle.stored.specs.declared.Around.TheVariants.{Six}
 use Rattle.reader.specs.Queries.{filter_says, plain_says, number_says}
 use Rattle.stored.specs.Numbers.{response_of, around_of}
 use Rattle.stored.specs.Longest.{max_delay_of}
@@ -45,7 +43,7 @@ pub record Given : Type 0 where
   pub work : Work
 
 -- what it says of document 01's table, what it answers and leaves, and its four work lists then
-abbrev pub judged : Given → Verdict
+abbrev pub judged : Given → Result ⊤ Refusal
 judged g = verdict_of (load_lines g.kind g.sizes (lengths_in (length g.responses) g.work) g.positions g.angle g.radius g.rate)
 
 abbrev pub loaded : Given → Load
@@ -135,7 +133,7 @@ pub record LoadsAsSource (g : Given) (w : Work) (look : Lookup) : Type 0 where
   pub filters_plain : (q : Point3) → Finite q → (out : source.Filter) → port_plain g w look q out ≡ told exactly (filter_nointerp same.sofar q.x q.y q.z out)
   pub by_number : (k : ℕ) → k < g.sizes.m → (out : source.Filter)
       → port_number g k out ≡ told exactly (filled_or same.sofar out (get_filter_nointerp same.sofar.hrtf k))
-  pub longest : max_delay_of g.delays g.rate ≡ Delay (record { 0 = max_delay same.sofar })
+  pub longest : max_delay_of g.delays g.rate ≡ Ok (record { 0 = max_delay same.sofar })
   -- a measurement's responses as parts of the list, and its neighbours, 65535 for None
   pub own : ℕ → InterpolatedFilter
   pub source_own : (k : ℕ) → k < g.sizes.m → get_filter_nointerp same.sofar.hrtf k ≡ Some (own k)
@@ -143,7 +141,7 @@ pub record LoadsAsSource (g : Given) (w : Work) (look : Lookup) : Type 0 where
   pub right_response : (k : ℕ) → k < g.sizes.m → response_of g.sizes g.responses k 1 ≡ (own k).right
   pub row : ℕ → Neighbors
   pub source_row : (k : ℕ) → k < g.sizes.m → get same.sofar.neighborhood k ≡ Some (row k)
-  pub port_row : (k : ℕ) → k < g.sizes.m → around_of g.sizes w.neighbours k ≡ Six (listed_six (row k))
+  pub port_row : (k : ℕ) → k < g.sizes.m → around_of g.sizes w.neighbours k ≡ Ok (listed_six (row k))
   -- each list is written up to the length that document 01 asks, and nothing past it
   pub past_left : drop g.sizes.m w.left ≡ drop g.sizes.m g.work.left
   pub past_right : drop g.sizes.m w.right ≡ drop g.sizes.m g.work.right

@@ -5,13 +5,13 @@ use mathlib.Core.List.{List}
 use native.Mathlib.Omega.{arith}
 use lib.ListN.{length, replicate}
 use lib.Ieee.{Float}
+use Rattle.std.specs.Prelude.{⊤, Result, Ok}
+use Rattle.refusals.specs.declared.Refusal.{Refusal}
 use Rattle.lists.specs.Over.{over, upto}
 use Rattle.lists.proofs.Laws.{length_over}
 use Rattle.points.specs.declared.Point3.{Point3}
 use Rattle.kdtree.specs.Insert.{lists_of}
 use Rattle.limits.specs.declared.Sizes.{Sizes}
-use Rattle.limits.specs.declared.Verdict.{Verdict}
-use Rattle.limits.specs.declared.Verdict.TheVariants as verdict
 use Rattle.limits.specs.Refusals.{verdict_of, load_lines}
 use Rattle.lookup.specs.declared.Lookup.{Lookup}
 use Rattle.lookup.specs.Build.{links_of, linked, box_of}
@@ -19,10 +19,10 @@ use Rattle.lookup.specs.Lookup.{locate_of}
 use Rattle.lookup_laws.specs.Loaded.{Room, Below, filled_with}
 use Rattle.lookup_laws.proofs.Loaded as built
 use Rattle.loads.specs.Load.{Work, Load, cartesian_from, indexed, placed_in, lengths_in, load_by, load_of}
-use Rattle.loads.proofs.Ways.{as_long, exact, room}
+use Rattle.loads.proofs.Ways.{as_long, accepted}
 
 module _ (kind : ℕ) (s : Sizes) (xs : List Float) (responses : ℕ) (angle radius rate : Float) (d : Work)
-    (fine : verdict_of (load_lines kind s (lengths_in responses d) xs angle radius rate) ≡ verdict.Fine) where
+    (fine : verdict_of (load_lines kind s (lengths_in responses d) xs angle radius rate) ≡ Ok tt) where
   abbrev after : Work
   after = (load_of kind s xs responses angle radius rate d).work
 
@@ -32,7 +32,7 @@ module _ (kind : ℕ) (s : Sizes) (xs : List Float) (responses : ℕ) (angle rad
 
   says : load_of kind s xs responses angle radius rate d ≡ indexed s.m angle radius (placed_in kind xs d)
   unfolding load_of load_by
-  says = ap (λ (u : Verdict). load_by u (indexed s.m angle radius (placed_in kind xs d)) d) fine
+  says = ap (λ (u : Result ⊤ Refusal). load_by u (indexed s.m angle radius (placed_in kind xs d)) d) fine
 
   left_is : after.left ≡ over (linked cart s.m).left d.left
   unfolding indexed
@@ -45,9 +45,9 @@ module _ (kind : ℕ) (s : Sizes) (xs : List Float) (responses : ℕ) (angle rad
   pub enough : Room cart s.m (links_of d.left d.right)
   enough =
       let v = verdict_of (load_lines kind s (lengths_in responses d) xs angle radius rate) in
-      let r = room kind s xs responses angle radius rate d v refl fine in
-      let n : length (cartesian_from kind xs) ≤ length d.cartesian = omega (arith, as_long kind xs, exact kind s xs responses angle radius rate d v refl fine, r.1.0) in
-      record { some = r.0; most = r.1.3; positions = omega (arith, r.1.0, length_over (cartesian_from kind xs) d.cartesian n); left = r.1.1; right = r.1.2 }
+      let r = accepted kind s xs responses angle radius rate d v refl fine in
+      let n : length (cartesian_from kind xs) ≤ length d.cartesian = omega (arith, as_long kind xs) in
+      record { some = r.some; most = r.lists.3; positions = omega (arith, length_over (cartesian_from kind xs) d.cartesian n); left = r.lists.1; right = r.lists.2 }
 
   -- A LOADED SET'S TREE IS THE BARE ONE FILLED IN PLACE ORDER, each measurement's number being its place
   pub bare : filled_with cart s.m (links_of d.left d.right) ≡ record { lists = lists_of cart after.left after.right (over (upto built.itself s.m) (replicate s.m 0)); count = s.m; bounds = box_of cart s.m }

@@ -9,12 +9,12 @@ use lib.ListN.{length, take, drop, length-append}
 use lib.Seq.{take-length, drop-length}
 use lib.Ieee.{Float}
 use borrow.Author.Tests.{eq-eqb, ne_eqb}
+use Rattle.std.specs.Prelude.{⊤, Result, Ok, Err}
+use Rattle.refusals.specs.declared.Refusal.{Refusal}
 use Rattle.lists.specs.Over.{over, upto}
 use Rattle.kdtree.specs.Tree.{TreeHolds}
 use Rattle.limits.specs.declared.Sizes.{Sizes}
-use Rattle.limits.specs.declared.Verdict.{Verdict}
-use Rattle.limits.specs.declared.Verdict.TheVariants as verdict
-use Rattle.limits.specs.Refusals.{verdict_of, reason_of, place_of, load_lines}
+use Rattle.limits.specs.Refusals.{verdict_of, load_lines}
 use Rattle.limits.proofs.Passed as passed
 use Rattle.coords.specs.Arrays.{turned, by_triplets}
 use Rattle.coords.proofs.Places.{changed_length}
@@ -23,7 +23,6 @@ use Rattle.lookup.specs.Build.{Built, links_of, linked, lookup_of, built_as, bui
 use Rattle.lookup_laws.specs.Loaded.{Room}
 use Rattle.neighbors.specs.Neighbors.{Tabled, tabled_as, table_entry, mark_of, table_of}
 use Rattle.neighbor_laws.proofs.Settled as table
-use Rattle.loads.specs.declared.Loaded.TheVariants.{Ready, Refused}
 use Rattle.loads.specs.Load.{Work, work_of, Load, load_as, cartesian_from, indexed, placed_in, lengths_in, load_by, load_of}
 
 -- ---- the Cartesian list
@@ -72,11 +71,11 @@ module _ (m : ℕ) (angle radius : Float) (left right neigh : List ℕ) (xs : Li
   entry* k = mark_of (table_entry look* m xs left* right* angle radius k)
 
   -- the whole table is written, and nothing refused on the way
-  pub filled : table_of look* m xs left* right* angle radius neigh ≡ tabled_as verdict.Fine (over (upto entry* (6 * m)) neigh)
+  pub filled : table_of look* m xs left* right* angle radius neigh ≡ tabled_as (Ok tt) (over (upto entry* (6 * m)) neigh)
   filled = table.filled xs m (links_of left right) room look* angle radius neigh fits
 
-  pub is_indexed : (look : Lookup) (l r n : List ℕ) (v : Verdict) → built_as look (links_of l r) ≡ build_of xs m (links_of left right) → tabled_as v n ≡ table_of look m xs l r angle radius neigh
-      → load_as (Ready look) (work_of l r n xs) ≡ indexed m angle radius (work_of left right neigh xs)
+  pub is_indexed : (look : Lookup) (l r n : List ℕ) (v : Result ⊤ Refusal) → built_as look (links_of l r) ≡ build_of xs m (links_of left right) → tabled_as v n ≡ table_of look m xs l r angle radius neigh
+      → load_as (Ok look) (work_of l r n xs) ≡ indexed m angle radius (work_of left right neigh xs)
   unfolding indexed build_of
   is_indexed look l r n v eb et =
       let el : look ≡ look* = ap (λ (b : Built). b.lookup) eb in
@@ -86,41 +85,42 @@ module _ (m : ℕ) (angle radius : Float) (left right neigh : List ℕ) (xs : Li
       ap (λ (t : Tabled). t.table)
       (et ∙ ap (λ (x : Lookup). table_of x m xs l r angle radius neigh) el ∙ ap (λ (x : List ℕ). table_of look* m xs x r angle radius neigh) e1
       ∙ ap (λ (x : List ℕ). table_of look* m xs left* x angle radius neigh) e2 ∙ filled) in
-      ap (λ (x : Lookup). load_as (Ready x) (work_of l r n xs)) el ∙ ap (λ (x : List ℕ). load_as (Ready look*) (work_of x r n xs)) e1
-      ∙ ap (λ (x : List ℕ). load_as (Ready look*) (work_of left* x n xs)) e2 ∙ ap (λ (x : List ℕ). load_as (Ready look*) (work_of left* right* x xs)) en
+      ap (λ (x : Lookup). load_as (Ok x) (work_of l r n xs)) el ∙ ap (λ (x : List ℕ). load_as (Ok look*) (work_of x r n xs)) e1
+      ∙ ap (λ (x : List ℕ). load_as (Ok look*) (work_of left* x n xs)) e2 ∙ ap (λ (x : List ℕ). load_as (Ok look*) (work_of left* right* x xs)) en
 
 -- ---- the call
 
-module _ (kind : ℕ) (s : Sizes) (xs : List Float) (responses : ℕ) (angle radius rate : Float) (d : Work) (w : Verdict)
+-- what a load that is not refused knows of its lists
+pub record Accepted (s : Sizes) (xs : List Float) (d : Work) : Type 0 where
+  pub some : 0 < s.m
+  pub exact : length xs ≡ 3 * s.m
+  pub lists : TreeHolds s.m d.cartesian d.left d.right
+  pub neighbours : 6 * s.m ≤ length d.neighbours
+
+module _ (kind : ℕ) (s : Sizes) (xs : List Float) (responses : ℕ) (angle radius rate : Float) (d : Work) (w : Result ⊤ Refusal)
     (ew : w ≡ verdict_of (load_lines kind s (lengths_in responses d) xs angle radius rate)) where
   abbrev done : Load
   done = indexed s.m angle radius (placed_in kind xs d)
 
-  pub refused : (k p number place : ℕ) → w ≡ verdict.Refused number place → k ≡ reason_of w → p ≡ place_of w → load_as (Refused k p) d ≡ load_of kind s xs responses angle radius rate d
+  pub refused : (refusal : Refusal) → w ≡ Err refusal → load_as (Err refusal) d ≡ load_of kind s xs responses angle radius rate d
   unfolding load_of load_by
-  refused k p number place h ek ep =
-      ap (λ (x : ℕ). load_as (Refused x p) d) (ek ∙ ap reason_of h) ∙ ap (λ (x : ℕ). load_as (Refused number x) d) (ep ∙ ap place_of h) ∙ sym (ap (λ (u : Verdict). load_by u done d) (sym ew ∙ h))
+  refused refusal h = sym (ap (λ (u : Result ⊤ Refusal). load_by u done d) (sym ew ∙ h))
 
-  module _ (fine : w ≡ verdict.Fine) where
-    went : passed.LoadPassed kind s (lengths_in responses d) xs angle radius rate
-    went = passed.load_passed kind s (lengths_in responses d) xs angle radius rate (sym ew ∙ fine)
-
-    pub exact : length xs ≡ 3 * s.m
-    exact = went.room.exact
-
-    pub room : (0 < s.m) × TreeHolds s.m d.cartesian d.left d.right × (6 * s.m ≤ length d.neighbours)
-    room =
+  module _ (fine : w ≡ Ok tt) where
+    pub accepted : Accepted s xs d
+    accepted =
+        let went = passed.load_passed kind s (lengths_in responses d) xs angle radius rate (sym ew ∙ fine) in
         let b = went.room.blend in
-        (went.sizes.some, (b.plain.tree.cartesian, b.plain.tree.left, b.plain.tree.right, went.sizes.most), b.neighbours)
+        record { some = went.sizes.some; exact = went.room.exact; lists = (b.plain.tree.cartesian, b.plain.tree.left, b.plain.tree.right, went.sizes.most); neighbours = b.neighbours }
 
     pub ready : (x : Load) (c : List Float) → c ≡ over (cartesian_from kind xs) d.cartesian → x ≡ indexed s.m angle radius (work_of d.left d.right d.neighbours c)
         → x ≡ load_of kind s xs responses angle radius rate d
     unfolding load_of load_by
     ready x c ec ex =
-        ex ∙ ap (λ (y : List Float). indexed s.m angle radius (work_of d.left d.right d.neighbours y)) ec ∙ sym (ap (λ (u : Verdict). load_by u done d) (sym ew ∙ fine))
+        ex ∙ ap (λ (y : List Float). indexed s.m angle radius (work_of d.left d.right d.neighbours y)) ec ∙ sym (ap (λ (u : Result ⊤ Refusal). load_by u done d) (sym ew ∙ fine))
 
--- where a load answers Ready, no line of its table is met
-pub fine_by : (v : Verdict) (done : Load) (d : Work) (look : Lookup) → (load_by v done d).answer ≡ Ready look → v ≡ verdict.Fine
+-- where a load answers Ok, no line of its table is met
+pub fine_by : (v : Result ⊤ Refusal) (done : Load) (d : Work) (look : Lookup) → (load_by v done d).answer ≡ Ok look → v ≡ Ok tt
 unfolding load_by
-fine_by verdict.Fine done d look e = refl
-fine_by (verdict.Refused n p) done d look e = let z : ◌≡◌ {A = ℕ} 0 1 = cc in absurd (omega arith)
+fine_by (Ok tt) done d look e = refl
+fine_by (Err refusal) done d look e = cc

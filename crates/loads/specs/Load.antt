@@ -1,16 +1,14 @@
 -- What a load answers, and what its four work lists then hold. Definitions only.
-use Rattle.std.specs.Prelude.{ℕ, ◌*◌, cond, List, eqb, length, Float}
+use Rattle.std.specs.Prelude.{ℕ, ◌*◌, cond, List, eqb, length, Float, ⊤, Result, Ok, Err}
+use Rattle.refusals.specs.declared.Refusal.{Refusal}
 use Rattle.lists.specs.Over.{over, upto}
 use Rattle.limits.specs.declared.Sizes.{Sizes}
 use Rattle.limits.specs.declared.Lengths.{Lengths}
-use Rattle.limits.specs.declared.Verdict.{Verdict}
-use Rattle.limits.specs.declared.Verdict.TheVariants as verdict
 use Rattle.limits.specs.Refusals.{verdict_of, load_lines}
 use Rattle.coords.specs.Arrays.{turned, by_triplets}
+use Rattle.lookup.specs.declared.Lookup.{Lookup}
 use Rattle.lookup.specs.Build.{linked, lookup_of}
 use Rattle.neighbors.specs.Neighbors.{table_entry, mark_of}
-use Rattle.loads.specs.declared.Loaded.{Loaded}
-use Rattle.loads.specs.declared.Loaded.TheVariants.{Ready, Refused}
 
 -- ---- the lists lent for work, and what a load leaves
 
@@ -24,10 +22,10 @@ abbrev pub work_of : List ℕ → List ℕ → List ℕ → List Float → Work
 work_of l r n c = record { left = l; right = r; neighbours = n; cartesian = c }
 
 pub record Load : Type 0 where
-  pub answer : Loaded
+  pub answer : Result Lookup Refusal
   pub work : Work
 
-abbrev pub load_as : Loaded → Work → Load
+abbrev pub load_as : Result Lookup Refusal → Work → Load
 load_as a w = record { answer = a; work = w }
 
 -- ---- a set
@@ -44,7 +42,7 @@ indexed m angle radius d =
     let look = lookup_of xs m in
     let l = over (linked xs m).left d.left in
     let r = over (linked xs m).right d.right in
-    load_as (Ready look) (work_of l r (over (upto (λ k. mark_of (table_entry look m xs l r angle radius k)) (6 * m)) d.neighbours) xs)
+    load_as (Ok look) (work_of l r (over (upto (λ k. mark_of (table_entry look m xs l r angle radius k)) (6 * m)) d.neighbours) xs)
 
 -- the Cartesian list with a set's positions at its front
 abbrev pub placed_in : ℕ → List Float → Work → Work
@@ -57,9 +55,9 @@ lengths_in responses d =
     record { tree = record { cartesian = length d.cartesian; left = length d.left; right = length d.right }; responses = responses; neighbours = length d.neighbours }
 
 -- refused, nothing is written
-unfoldable pub load_by : Verdict → Load → Work → Load
-load_by verdict.Fine done d = done
-load_by (verdict.Refused number place) done d = load_as (Refused number place) d
+unfoldable pub load_by : Result ⊤ Refusal → Load → Work → Load
+load_by (Ok tt) done d = done
+load_by (Err refusal) done d = load_as (Err refusal) d
 
 unfoldable pub load_of : ℕ → Sizes → List Float → ℕ → Float → Float → Float → Work → Load
 load_of kind s xs responses angle radius rate d =

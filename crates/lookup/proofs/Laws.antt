@@ -1,24 +1,25 @@
 -- The bounds, the clamp and the answers in the terms of the code. Assumes nothing.
 use mathlib.Core.Path.{◌≡◌, refl, sym, ap, ◌∙◌}
 use mathlib.Core.Bool.{Bool, true, false, cond, ◌&&◌}
-use mathlib.Core.List.{List}
+use mathlib.Core.List.{List, [], ◌∷◌}
+use lib.ListN.{length}
 use Prim.Native.Nat.{ℕ, zero, suc, ◌+◌, ◌<◌}
 use native.Mathlib.Omega.{arith}
 use native.Mathlib.Numerals.{add-one}
 use lib.Ieee.{Float, binary32, lt, div}
 use Rattle.floats.specs.Floats.{zero32}
 use Rattle.points.specs.declared.Point3.{Point3}
-use Rattle.points.specs.Points.{point_at}
+use Rattle.points.specs.Points.{point_at, listed}
 use Rattle.kdtree.specs.declared.BoundingBox.{BoundingBox}
 use Rattle.kdtree.specs.declared.Best.{Best}
-use Rattle.kdtree.specs.declared.Searched.{Searched}
-use Rattle.kdtree.specs.declared.Searched.TheVariants.{Found, Stopped}
+use Rattle.std.specs.Prelude.{⊤}
+use Rattle.std.proofs.Common.{Option, Some, None, Result, Ok, Err}
 use Rattle.kdtree.specs.Geometry.{box_at, grown}
 use Rattle.kdtree.specs.Nearest.{place_found}
 use Rattle.coords.specs.declared.Spherical.{Spherical}
 use Rattle.coords.specs.Coords.{spherical_of, radius_of}
-use Rattle.limits.specs.declared.Verdict.{Verdict}
-use Rattle.limits.specs.declared.Verdict.TheVariants as verdict
+use Rattle.refusals.specs.declared.Refusal.{Refusal}
+use Rattle.refusals.specs.declared.Refusal.TheVariants.{BadLink}
 use Rattle.lookup.specs.declared.Lookup.{Lookup}
 use Rattle.lookup.specs.declared.Located.{Located}
 use Rattle.lookup.specs.declared.Located.TheVariants.{At, Refused}
@@ -68,11 +69,11 @@ module _ (look : Lookup) (p : Point3) (r : Float) (er : r ≡ radius_of p) where
 
 -- ---- the answers
 
-pub located_found : (w v : Searched) (s : Best) → w ≡ v → w ≡ Found s → At s.place ≡ located_by v
+pub located_found : (w v : Option Best) (s : Best) → w ≡ v → w ≡ Some s → At s.place ≡ located_by v
 unfolding located_by
 located_found w v s e f = ap located_by (sym f ∙ e)
 
-pub located_none : (w v : Searched) → w ≡ v → w ≡ Stopped → Refused 9 0 ≡ located_by v
+pub located_none : (w v : Option Best) → w ≡ v → w ≡ None → Refused BadLink ≡ located_by v
 unfolding located_by
 located_none w v e f = ap located_by (sym f ∙ e)
 
@@ -81,21 +82,29 @@ pub located : (look : Lookup) (m : ℕ) (xs : List Float) (left right : List ℕ
 unfolding locate_of
 located look m xs left right q p r ep er = er ∙ ap (λ (x : Point3). located_by (place_found xs left right m look.bounds x)) ep
 
-pub answered : (v : Verdict) (r a : Located) → v ≡ verdict.Fine → r ≡ a → r ≡ unless v a
+pub answered : (v : Result ⊤ Refusal) (r a : Located) → v ≡ Ok tt → r ≡ a → r ≡ unless v a
 unfolding unless
-answered v r a e h = h ∙ sym (ap (λ (w : Verdict). unless w a) e)
+answered v r a e h = h ∙ sym (ap (λ (w : Result ⊤ Refusal). unless w a) e)
 
-pub refused : (v : Verdict) (a : Located) (number place : ℕ) → v ≡ verdict.Refused number place → Refused number place ≡ unless v a
+pub refused : (v : Result ⊤ Refusal) (a : Located) (r : Refusal) → v ≡ Err r → Refused r ≡ unless v a
 unfolding unless
-refused v a number place e = sym (ap (λ (w : Verdict). unless w a) e)
+refused v a r e = sym (ap (λ (w : Result ⊤ Refusal). unless w a) e)
 
-pub moved_at : (look : Lookup) (l : List Float) (r v : Located) (number : ℕ) (p : Point3) → r ≡ v → r ≡ At number → p ≡ clamped_by look (point_in l)
-    → moved_as r (put_point l p) ≡ moved_if_found v look l
+-- three coordinates written one by one are the list of the point
+put_listed : (l : List Float) (p : Point3) → length l ≡ 3 → put_point l p ≡ listed p
+put_listed [] p e = absurd (omega (arith, e))
+put_listed (x ∷ []) p e = absurd (omega (arith, e))
+put_listed (x ∷ y ∷ []) p e = absurd (omega (arith, e))
+put_listed (x ∷ y ∷ z ∷ []) p e = refl
+put_listed (x ∷ y ∷ z ∷ u ∷ l) p e = absurd (omega (arith, e))
+
+pub moved_at : (look : Lookup) (l : List Float) (r v : Located) (number : ℕ) (p : Point3) (xs : List Float) → length l ≡ 3 → r ≡ v → r ≡ At number
+    → p ≡ clamped_by look (point_in l) → xs ≡ listed p → moved_as r xs ≡ moved_if_found v look l
 unfolding moved_if_found
-moved_at look l r v number p e h ep =
-    ap (λ (t : Point3). moved_as r (put_point l t)) ep ∙ ap (λ (x : Located). moved_as x (put_point l (clamped_by look (point_in l)))) h
+moved_at look l r v number p xs three e h ep ex =
+    ap (moved_as r) (ex ∙ sym (put_listed l p three)) ∙ ap (λ (t : Point3). moved_as r (put_point l t)) ep ∙ ap (λ (x : Located). moved_as x (put_point l (clamped_by look (point_in l)))) h
     ∙ sym (ap (λ (x : Located). moved_if_found x look l) (sym e ∙ h))
 
-pub moved_not : (look : Lookup) (l : List Float) (r v : Located) (number place : ℕ) → r ≡ v → r ≡ Refused number place → moved_as r l ≡ moved_if_found v look l
+pub moved_not : (look : Lookup) (l : List Float) (r v : Located) (x : Refusal) → r ≡ v → r ≡ Refused x → moved_as r l ≡ moved_if_found v look l
 unfolding moved_if_found
-moved_not look l r v number place e h = ap (λ (x : Located). moved_as x l) h ∙ sym (ap (λ (x : Located). moved_if_found x look l) (sym e ∙ h))
+moved_not look l r v x e h = ap (λ (x : Located). moved_as x l) h ∙ sym (ap (λ (x : Located). moved_if_found x look l) (sym e ∙ h))

@@ -13,11 +13,11 @@ use Rattle.points.specs.declared.Point3.{Point3}
 use Rattle.points.specs.Points.{point_at}
 use Rattle.kdtree.specs.declared.Link.{Link}
 use Rattle.kdtree.specs.declared.Slot.{Slot}
-use Rattle.kdtree.specs.declared.Slot.TheVariants.{Left, Right, None}
+use Rattle.kdtree.specs.declared.Slot.TheVariants.{Left, Right, Blocked}
 use Rattle.kdtree.specs.Tree.{Tree, node, link_of, side_of, subtree}
-use Rattle.kdtree.specs.Insert.{slot_in}
+use Rattle.kdtree.specs.Insert.{slot_in, owner_of, left_linked, right_linked}
 use Rattle.kdtree.proofs.Step.{Said, said, said_gone, said_bad, said_to}
-use Rattle.kdtree.proofs.Nodes.{subtree_below, slot_below, OwnerBelow}
+use Rattle.kdtree.proofs.Nodes.{subtree_below, slot_below}
 use Rattle.lookup.specs.declared.Lookup.{Lookup}
 use Rattle.lookup.specs.Build.{Links, links_of, owned_by, slot_at, owned_at, linked, over_both, built_as}
 
@@ -50,16 +50,16 @@ module _ (left right left' right' : List ℕ) (xs : List Float) (count : ℕ)
 -- ---- lengths
 
 owned_left : (s : Slot) (n : ℕ) (a : Links) → length (owned_by s n a).left ≡ length a.left
-unfolding owned_by
+unfolding owned_by left_linked right_linked
 owned_left (Left o) n a = length-set a.left o n
 owned_left (Right o) n a = refl
-owned_left None n a = refl
+owned_left Blocked n a = refl
 
 owned_right : (s : Slot) (n : ℕ) (a : Links) → length (owned_by s n a).right ≡ length a.right
-unfolding owned_by
+unfolding owned_by left_linked right_linked
 owned_right (Left o) n a = refl
 owned_right (Right o) n a = length-set a.right o n
-owned_right None n a = refl
+owned_right Blocked n a = refl
 
 one_more : (l : List ℕ) (k : ℕ) → length l ≡ k → length (l ++ (65535 ∷ [])) ≡ suc k
 one_more l k e = length-append l (65535 ∷ []) ∙ add-one (length l) ∙ ap suc e
@@ -76,9 +76,8 @@ linked_right_lem xs (suc n) = one_more (owned_by (slot_at xs n (linked xs n)) n 
 
 -- ---- the owner of a slot is a place linked before
 
-pub owner : (xs : List Float) (n : ℕ) (a : Links) → OwnerBelow n (slot_at xs n a)
-owner xs zero a = unfold subtree slot_in in tt
-owner xs (suc n) a = slot_below (suc n) (point_at xs (suc n)) _ 0 (subtree_below a.left a.right xs (suc n) (suc n) 0 (omega arith))
+pub owner : (xs : List Float) (n : ℕ) (a : Links) → 0 < n → owner_of (slot_at xs n a) < n
+owner xs n a some = slot_below n (point_at xs n) some _ 0 (subtree_below a.left a.right xs n n 0 some)
 
 -- ---- a place linked over lists that hold anything
 
@@ -86,11 +85,11 @@ set_over : (l d : List ℕ) (o v : ℕ) → o < length l → set (over l d) o v 
 unfolding over
 set_over l d o v h = rw (length-set l o v) (set-append_left l _ o v h)
 
-owned_over : (s : Slot) (n : ℕ) (a d : Links) → OwnerBelow n s → length a.left ≡ n → length a.right ≡ n → owned_by s n (over_both a d) ≡ over_both (owned_by s n a) d
-unfolding owned_by
+owned_over : (s : Slot) (n : ℕ) (a d : Links) → owner_of s < n → length a.left ≡ n → length a.right ≡ n → owned_by s n (over_both a d) ≡ over_both (owned_by s n a) d
+unfolding owned_by left_linked right_linked
 owned_over (Left o) n a d h el er = ap (λ (l : List ℕ). links_of l (over a.right d.right)) (set_over a.left d.left o n (subst (λ (k : ℕ). o < k) (sym el) h))
 owned_over (Right o) n a d h el er = ap (λ (l : List ℕ). links_of (over a.left d.left) l) (set_over a.right d.right o n (subst (λ (k : ℕ). o < k) (sym er) h))
-owned_over None n a d h el er = refl
+owned_over Blocked n a d h el er = refl
 
 get_d_over : (l d : List ℕ) (i n : ℕ) → length l ≡ n → i < n → get_or (over l d) i 0 ≡ get_or l i 0
 unfolding over
@@ -108,7 +107,7 @@ module _ (xs : List Float) (n : ℕ) (d : Links) (some : 0 < n) where
 
   pub place_over : owned_at xs n (over_both a d) ≡ over_both (owned_at xs n a) d
   unfolding owned_at
-  place_over = ap (λ (s : Slot). owned_by s n (over_both a d)) slot_over ∙ owned_over (slot_at xs n a) n a d (owner xs n a) (linked_left_lem xs n) (linked_right_lem xs n)
+  place_over = ap (λ (s : Slot). owned_by s n (over_both a d)) slot_over ∙ owned_over (slot_at xs n a) n a d (owner xs n a some) (linked_left_lem xs n) (linked_right_lem xs n)
 
 -- what a turn of the loop leaves: the place linked, then its own sides written
 pub turn_over : (xs : List Float) (n : ℕ) (d b : Links) → 0 < n → n < length d.left → n < length d.right
@@ -133,7 +132,7 @@ first_over xs n d h =
     cc
 
 pub root_over : (xs : List Float) (d : Links) → 0 < length d.left → 0 < length d.right → links_of (set d.left 0 65535) (set d.right 0 65535) ≡ over_both (linked xs 1) d
-root_over xs d hl hr = unfold linked owned_at owned_by subtree slot_in in write
+root_over xs d hl hr = unfold linked owned_at owned_by left_linked right_linked subtree slot_in in write
   where
     write : links_of (set d.left 0 65535) (set d.right 0 65535) ≡ links_of (over (65535 ∷ []) d.left) (over (65535 ∷ []) d.right)
     write =
@@ -148,18 +147,12 @@ module _ (xs : List Float) (n : ℕ) (a : Links) (some : 0 < n) (p : Point3) (ep
   is_slot : s ≡ slot_at xs n a
   is_slot = es n (omega arith) ∙ ap (λ (q : Point3). slot_in q (subtree a.left a.right xs n n 0) 0) ep
 
-  pub placed : (w : Slot) → s ≡ w → owned_by w n a ≡ owned_at xs n a
+  pub below : owner_of s < n
+  below = subst (λ (s : Slot). owner_of s < n) (sym is_slot) (owner xs n a some)
+
+  pub placed : owned_by s n a ≡ owned_at xs n a
   unfolding owned_at
-  placed w e = ap (λ (t : Slot). owned_by t n a) (sym e ∙ is_slot)
-
-  below : OwnerBelow n s
-  below = subst (OwnerBelow n) (sym is_slot) (owner xs n a)
-
-  pub below_left : (o : ℕ) → s ≡ Left o → o < n
-  below_left o e = subst (OwnerBelow n) e below
-
-  pub below_right : (o : ℕ) → s ≡ Right o → o < n
-  below_right o e = subst (OwnerBelow n) e below
+  placed = ap (λ (t : Slot). owned_by t n a) is_slot
 
 -- what is built, part by part
 pub built_as_lem : {x y : Lookup} {a b : Links} → x ≡ y → a ≡ b → built_as x a ≡ built_as y b

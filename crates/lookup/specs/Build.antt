@@ -1,5 +1,5 @@
 -- What a set is looked up by, built from its Cartesian list: the links of its places in place order, the box, and the six bounds. Definitions only.
-use Rattle.std.specs.Prelude.{List, [], ◌∷◌, ◌++◌, ℕ, zero, suc, set, Float}
+use Rattle.std.specs.Prelude.{List, [], ◌∷◌, ◌++◌, ℕ, zero, suc, Float}
 use Rattle.std.specs.Float.{binary32}
 use Rattle.std.specs.Float.Ieee.{of_bits}
 use Rattle.floats.specs.Floats.{min_of, max_of}
@@ -7,10 +7,9 @@ use Rattle.lists.specs.Over.{over}
 use Rattle.points.specs.Points.{point_at}
 use Rattle.kdtree.specs.declared.BoundingBox.{BoundingBox}
 use Rattle.kdtree.specs.declared.Slot.{Slot}
-use Rattle.kdtree.specs.declared.Slot.TheVariants.{Left, Right, None}
 use Rattle.kdtree.specs.Geometry.{box_at, grown}
 use Rattle.kdtree.specs.Tree.{subtree}
-use Rattle.kdtree.specs.Insert.{slot_in}
+use Rattle.kdtree.specs.Insert.{slot_in, left_linked, right_linked}
 use Rattle.coords.specs.declared.Spherical.{Spherical}
 use Rattle.coords.specs.Coords.{spherical_of}
 use Rattle.lookup.specs.declared.Lookup.{Lookup}
@@ -26,9 +25,7 @@ links_of l r = record { left = l; right = r }
 
 -- the side that the place n goes to leads to it now
 unfoldable pub owned_by : Slot → ℕ → Links → Links
-owned_by (Left o) n a = links_of (set a.left o n) a.right
-owned_by (Right o) n a = links_of a.left (set a.right o n)
-owned_by None n a = a
+owned_by s n a = links_of (left_linked s n a.left) (right_linked s n a.right)
 
 -- where the place n goes in the tree of the n places before it: nowhere if there are none
 abbrev pub slot_at : List Float → ℕ → Links → Slot

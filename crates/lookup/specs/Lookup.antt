@@ -1,17 +1,16 @@
 -- Document 01's "Radius clamp", and the nearest measurement of a query, refusals included. Definitions only.
-use Rattle.std.specs.Prelude.{cond, ◌&&◌, List, ℕ, length, get_or, set, Float}
+use Rattle.std.specs.Prelude.{cond, ◌&&◌, List, ℕ, get_or, set, Option, Some, None, ⊤, Result, Ok, Err, Float}
 use Rattle.std.specs.Float.{nan, binary32}
 use Rattle.std.specs.Float.Ieee.{lt, mul, div}
 use Rattle.floats.specs.Floats.{zero32}
 use Rattle.points.specs.declared.Point3.{Point3}
-use Rattle.kdtree.specs.declared.Searched.{Searched}
-use Rattle.kdtree.specs.declared.Searched.TheVariants.{Found, Stopped}
+use Rattle.kdtree.specs.declared.Best.{Best}
 use Rattle.kdtree.specs.Nearest.{place_found}
 use Rattle.coords.specs.Coords.{radius_of}
 use Rattle.limits.specs.declared.Sizes.{Sizes}
-use Rattle.limits.specs.declared.TreeLengths.{TreeLengths}
-use Rattle.limits.specs.declared.Verdict.{Verdict}
-use Rattle.limits.specs.declared.Verdict.TheVariants as verdict
+use Rattle.limits.specs.Allowed.{tree_lengths}
+use Rattle.refusals.specs.declared.Refusal.{Refusal}
+use Rattle.refusals.specs.declared.Refusal.TheVariants.{BadLink}
 use Rattle.limits.specs.Refusals.{verdict_of, find_lines}
 use Rattle.lookup.specs.declared.Lookup.{Lookup}
 use Rattle.lookup.specs.declared.Located.{Located}
@@ -33,10 +32,10 @@ clamped_by look p = clamped_to look.radius_min look.radius_max p
 
 -- ---- the nearest measurement
 
--- a measurement's number is its place; document 01's number 9, place 0, for a search that stopped
-unfoldable pub located_by : Searched → Located
-located_by (Found s) = At s.place
-located_by Stopped = Refused 9 0
+-- a measurement's number is its place; a search that stopped is refused
+unfoldable pub located_by : Option Best → Located
+located_by (Some s) = At s.place
+located_by None = Refused BadLink
 
 -- of the clamped query, in a Cartesian list, links left and right, m places
 unfoldable pub locate_of : Lookup → ℕ → List Float → List ℕ → List ℕ → Point3 → Located
@@ -44,20 +43,12 @@ locate_of look m xs left right q = located_by (place_found xs left right m look.
 
 -- ---- find: 2, 3, 7, then 9 on the way
 
-unfoldable pub unless : Verdict → Located → Located
-unless verdict.Fine found = found
-unless (verdict.Refused number place) found = Refused number place
-
-abbrev pub tree_lengths : List Float → List ℕ → List ℕ → TreeLengths
-tree_lengths xs left right = record { cartesian = length xs; left = length left; right = length right }
+unfoldable pub unless : Result ⊤ Refusal → Located → Located
+unless (Ok u) found = found
+unless (Err r) found = Refused r
 
 unfoldable pub find_of : Lookup → Sizes → List Float → List ℕ → List ℕ → Point3 → Located
 find_of look s xs left right q = unless (verdict_of (find_lines s (tree_lengths xs left right) q)) (locate_of look s.m xs left right q)
-
--- the same answer as a verdict
-abbrev pub verdict_in : Located → Verdict
-verdict_in (At number) = verdict.Fine
-verdict_in (Refused number place) = verdict.Refused number place
 
 -- ---- find_mut: its answer, and its three coordinates afterwards
 
@@ -77,7 +68,7 @@ put_point l p = set (set (set l 0 p.x) 1 p.y) 2 p.z
 -- clamped, or as they were if refused
 unfoldable pub moved_if_found : Located → Lookup → List Float → Moved
 moved_if_found (At number) look l = moved_as (At number) (put_point l (clamped_by look (point_in l)))
-moved_if_found (Refused number place) look l = moved_as (Refused number place) l
+moved_if_found (Refused r) look l = moved_as (Refused r) l
 
 unfoldable pub find_mut_of : Lookup → Sizes → List Float → List ℕ → List ℕ → List Float → Moved
 find_mut_of look s xs left right l = moved_if_found (find_of look s xs left right (point_in l)) look l

@@ -11,14 +11,15 @@
 
 ghost use Rattle.std.specs.Prelude.{◌≡◌, ◌+◌, ◌*◌, ◌<◌, ◌≤◌, length};
 ghost use Rattle.lookup.specs.Build.{links_of, owned_at, linked, over_both, unmeasured, widened, lookup_of, built_as, build_of};
-ghost use Rattle.lookup.specs.Lookup.{scaled, clamped_by, located_by, locate_of, find_of, verdict_in, moved_as, find_mut_of};
+ghost use Rattle.lookup.specs.Lookup.{scaled, clamped_by, located_by, locate_of, find_of, moved_as, find_mut_of};
 ghost use Rattle.kdtree.specs.Tree.{TreeHolds};
 ghost use Rattle.kdtree.specs.Nearest.{place_found};
 
 use coords::Spherical;
-use kdtree::{BoundingBox, Searched, Slot};
-use limits::{Sizes, TreeLengths, Verdict};
+use kdtree::{BoundingBox, Tree};
+use limits::{Sizes, TreeLengths};
 use points::Point3;
+use refusals::Refusal;
 
 // Azimuth phi and elevation theta in degrees.
 #[repr(C)]
@@ -33,11 +34,12 @@ pub struct Lookup {
     pub radius_max: f32,
 }
 
-// A measurement's number, or document 01's refusal: number and place.
+// A measurement's number, or what the search says no to. A `Result` would say the same; it is an enum of its own since document 01 wants
+// find's answer so, opened by its callers with `let .. else` (docs/DECISIONS.md).
 #[derive(Clone, Copy)]
 pub enum Located {
     At(u16),
-    Refused(u32, usize),
+    Refused(Refusal),
 }
 
 // The largest f32.
@@ -46,6 +48,7 @@ const MAX: f32 = 340282346638528859811704183484516925440.0;
 // ---- building
 
 // Links the place n, whose point stands in the list, to the tree of the places before it.
+// Lists one by one while links are written: a `Tree` only lends them, so one is made for each place anew.
 fn link_place(positions: &[f32], left: &mut [u16], right: &mut [u16], n: usize)
     requires { (0 < n)
         × (n < 16384)
@@ -55,11 +58,13 @@ fn link_place(positions: &[f32], left: &mut [u16], right: &mut [u16], n: usize)
     ensures { links_of left.new right.new ≡ owned_at positions.now n (links_of left.old right.old) }
 {
     let p = points::point_at(positions, n);
-    match kdtree::insert_rec(positions, left, right, n, p, 0, 0) {
-        Slot::Left(o) => left[o] = n as u16,
-        Slot::Right(o) => right[o] = n as u16,
-        Slot::None => {}
-    }
+    let tree = Tree {
+        count: n,
+        positions,
+        left,
+        right,
+    };
+    kdtree::insert_rec(&tree, &p, 0, 0).link(left, right, n);
 }
 
 // Links the first m places in order.
@@ -70,12 +75,10 @@ fn link_all(positions: &[f32], left: &mut [u16], right: &mut [u16], m: usize)
 {
     left[0] = 65535;
     right[0] = 65535;
-    let mut i = 1;
-    while i < m {
+    for i in 1..m {
         link_place(positions, left, right, i);
         left[i] = 65535;
         right[i] = 65535;
-        i += 1;
     }
 }
 
@@ -95,6 +98,7 @@ impl Lookup {
     }
 
     // The bounds with one measurement more, and its box.
+    #[tactic(auto, unfolding(crate::specs::Build::widened))]
     fn widened(self, bounds: BoundingBox, s: Spherical) -> Self
         ensures { result ≡ widened self bounds s }
     {
@@ -110,6 +114,7 @@ impl Lookup {
     }
 
     // The box and the bounds of the first m places.
+    // It reads no link, so it asks for the positions and not for a tree.
     fn measured(positions: &[f32], m: usize) -> Self
         requires { (0 < m)
             × (m ≤ 16384)
@@ -122,16 +127,15 @@ impl Lookup {
             bounds,
             coords::cartesian_to_spherical(first),
         );
-        let mut i = 1;
-        while i < m {
+        for i in 1..m {
             let p = points::point_at(positions, i);
             look = look.widened(look.bounds.extend(p), coords::cartesian_to_spherical(p));
-            i += 1;
         }
         look
     }
 
     // Links the first m places of a Cartesian list in place order, and answers their box and bounds.
+    #[tactic(auto, unfolding(crate::specs::Build::build_of))]
     pub fn new(positions: &[f32], m: usize, left: &mut [u16], right: &mut [u16]) -> Self
         requires { (0 < m)
             × TreeHolds m positions.now left.old right.old }
@@ -156,43 +160,31 @@ impl Lookup {
     }
 
     // The measurement nearest to a point that is clamped already.
-    pub fn nearest(
-        self,
-        m: usize,
-        cartesian: &[f32],
-        left: &[u16],
-        right: &[u16],
-        p: Point3,
-    ) -> Located
-        requires { (0 < m)
-            × TreeHolds m cartesian.now left.now right.now }
-        ensures { result ≡ located_by (place_found cartesian.now left.now right.now m self.bounds p) }
+    #[tactic(auto, unfolding(crate::specs::Lookup::located_by))]
+    pub fn nearest(self, tree: &Tree, p: Point3) -> Located
+        requires { 0 < tree.now.count }
+        ensures { result
+            ≡ located_by (place_found tree.now.positions.now tree.now.left.now tree.now.right.now tree.now.count self.bounds p) }
     {
-        let searched = kdtree::nearest_place(m, 0, self.bounds, cartesian, left, right, p);
-        let Searched::Found(best) = searched else {
-            return Located::Refused(9, 0);
+        let Some(best) = kdtree::nearest_place(tree, 0, self.bounds, p) else {
+            return Located::Refused(Refusal::BadLink);
         };
         Located::At(best.place)
     }
 
     // The measurement nearest to the clamped query, for any links and any f32.
-    pub fn locate(
-        self,
-        m: usize,
-        cartesian: &[f32],
-        left: &[u16],
-        right: &[u16],
-        q: Point3,
-    ) -> Located
-        requires { (0 < m)
-            × TreeHolds m cartesian.now left.now right.now }
-        ensures { result ≡ locate_of self m cartesian.now left.now right.now q }
+    #[tactic(auto, unfolding(crate::specs::Lookup::locate_of))]
+    pub fn locate(self, tree: &Tree, q: Point3) -> Located
+        requires { 0 < tree.now.count }
+        ensures { result
+            ≡ locate_of self tree.now.count tree.now.positions.now tree.now.left.now tree.now.right.now q }
     {
         let p = self.normalize_radius(q);
-        self.nearest(m, cartesian, left, right, p)
+        self.nearest(tree, p)
     }
 
     // The measurement nearest to the clamped query, or refusal 2, 3, 7 or 9.
+    // Lists one by one, as the C interface lends them: this asks nothing of its caller, and a `Tree` would.
     pub fn find(
         self,
         sizes: Sizes,
@@ -203,15 +195,17 @@ impl Lookup {
     ) -> Located
         ensures { result ≡ find_of self sizes cartesian.now left.now right.now coordinate }
     {
-        let lengths = TreeLengths {
-            cartesian: cartesian.len(),
-            left: left.len(),
-            right: right.len(),
-        };
-        match limits::judge_find(sizes, lengths, coordinate) {
-            Verdict::Fine => self.locate(sizes.m, cartesian, left, right, coordinate),
-            Verdict::Refused(number, place) => Located::Refused(number, place),
+        let lengths = TreeLengths::of(cartesian, left, right);
+        if let Err(refusal) = limits::judge_find(sizes, lengths, coordinate) {
+            return Located::Refused(refusal);
         }
+        let tree = Tree {
+            count: sizes.m,
+            positions: cartesian,
+            left,
+            right,
+        };
+        self.locate(&tree, coordinate)
     }
 
     // The same, and the coordinates are clamped in place; refused, they stay.
@@ -225,23 +219,18 @@ impl Lookup {
     ) -> Located
         ensures { moved_as result coordinate.new ≡ find_mut_of self sizes cartesian.now left.now right.now coordinate.old }
     {
-        let q = Point3 {
-            x: coordinate[0],
-            y: coordinate[1],
-            z: coordinate[2],
-        };
+        let q = Point3::from(*coordinate);
         let found = self.find(sizes, cartesian, left, right, q);
         let Located::At(_) = found else {
             return found;
         };
         let p = self.normalize_radius(q);
-        coordinate[0] = p.x;
-        coordinate[1] = p.y;
-        coordinate[2] = p.z;
+        *coordinate = p.into();
         found
     }
 }
 
+#[tactic(auto, unfolding(crate::specs::Lookup::scaled))]
 fn scale(p: Point3, k: f32) -> Point3
     ensures { result ≡ scaled p k }
 {
@@ -249,15 +238,5 @@ fn scale(p: Point3, k: f32) -> Point3
         x: p.x * k,
         y: p.y * k,
         z: p.z * k,
-    }
-}
-
-// What an answer says no to.
-pub fn verdict(found: Located) -> Verdict
-    ensures { result ≡ verdict_in found }
-{
-    match found {
-        Located::At(_) => Verdict::Fine,
-        Located::Refused(number, place) => Verdict::Refused(number, place),
     }
 }

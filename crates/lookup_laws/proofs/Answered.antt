@@ -4,27 +4,26 @@ use mathlib.Core.Bool.{Bool, true, false, cond}
 use Prim.Native.Nat.{ℕ, suc, ◌+◌, ◌≤◌}
 use native.Mathlib.Omega.{arith}
 use lib.Ieee.{lt}
+use Rattle.std.specs.Prelude.{None, Option, Some}
 use Rattle.points.specs.declared.Point3.{Point3}
 use Rattle.points.specs.Points.{dist_sq_of}
 use Rattle.kdtree.specs.declared.BoundingBox.{BoundingBox}
 use Rattle.kdtree.specs.declared.Best.{Best}
-use Rattle.kdtree.specs.declared.Searched.{Searched}
-use Rattle.kdtree.specs.declared.Searched.TheVariants.{Found, Stopped}
 use Rattle.kdtree.specs.Geometry.{box_dist_sq, next_axis, left_first}
 use Rattle.kdtree.specs.Tree.{Tree, gone, bad, node}
 use Rattle.kdtree.specs.Search.{search, improve, visited, farther, after_near, Go}
 use Rattle.kdtree.specs.Unpruned.{size}
 use Rattle.kdtree_laws.proofs.Pruned.{Clean, search_left, search_right, improve_visits}
 
-abbrev pub WithinVisits : ℕ → Searched → Type 0
-WithinVisits v (Found r) = r.visits ≤ v
-WithinVisits v Stopped = ⊥
+abbrev pub WithinVisits : ℕ → Option Best → Type 0
+WithinVisits v (Some r) = r.visits ≤ v
+WithinVisits v None = ⊥
 
-more : (v w : ℕ) (x : Searched) → v ≤ w → WithinVisits v x → WithinVisits w x
-more v w (Found r) h a = omega arith
-more v w Stopped h a = a
+more : (v w : ℕ) (x : Option Best) → v ≤ w → WithinVisits v x → WithinVisits w x
+more v w (Some r) h a = omega arith
+more v w None h a = a
 
-one : (c : Bool) (v : ℕ) (x : Searched) (s : Best) → WithinVisits v x → s.visits ≤ v → WithinVisits v (cond c x (Found s))
+one : (c : Bool) (v : ℕ) (x : Option Best) (s : Best) → WithinVisits v x → s.visits ≤ v → WithinVisits v (cond c x (Some s))
 one true v x s a b = a
 one false v x s a b = b
 
@@ -35,10 +34,10 @@ far q gone go b axis s c a = omega arith
 far q bad go b axis s c a = c
 far q (node n p l r) go b axis s c a = one (lt (box_dist_sq b q) s.dist) _ (go b axis s) s a (omega arith)
 
-near : (w : Searched) (k : Best → Searched) (u v : ℕ) → WithinVisits u w → ((s : Best) → s.visits ≤ u → WithinVisits v (k s)) → WithinVisits v (after_near w k)
+near : (w : Option Best) (k : Best → Option Best) (u v : ℕ) → WithinVisits u w → ((s : Best) → s.visits ≤ u → WithinVisits v (k s)) → WithinVisits v (after_near w k)
 unfolding after_near
-near (Found s) k u v a g = g s a
-near Stopped k u v a g = a
+near (Some s) k u v a g = g s a
+near None k u v a g = a
 
 module _ (M : ℕ) (q : Point3) where
   abbrev Always : Tree → ℕ → Type 0

@@ -10,22 +10,21 @@ use lib.Seq.{set-get_or}
 use lib.Dec.{eqb}
 use lib.Ieee.{Float, nan}
 use borrow.Author.Tests.{lt-ltb, ne_eqb}
+use Rattle.std.specs.Prelude.{None, Option, Some, Result, Ok}
 use Rattle.lists.specs.Over.{over, upto}
 use Rattle.lists.proofs.Laws.{over_nil, length_over, length_upto, get_or_over_upto, upto_more}
 use Rattle.points.specs.declared.Point3.{Point3}
 use Rattle.points.specs.Points.{point_at}
 use Rattle.kdtree.specs.declared.BoundingBox.{BoundingBox}
 use Rattle.kdtree.specs.declared.Best.{Best}
-use Rattle.kdtree.specs.declared.Searched.{Searched}
-use Rattle.kdtree.specs.declared.Searched.TheVariants.{Found, Stopped}
 use Rattle.kdtree.specs.declared.Slot.{Slot}
 use Rattle.kdtree.specs.declared.Slot.TheVariants as slots
-use Rattle.kdtree.specs.declared.Inserted.TheVariants as inserted
+use Rattle.refusals.specs.declared.Refusal.{Refusal}
 use Rattle.kdtree.specs.Geometry.{box_at, grown}
 use Rattle.kdtree.specs.Tree.{Tree, subtree}
 use Rattle.kdtree.specs.Search.{search}
 use Rattle.kdtree.specs.Unpruned.{size}
-use Rattle.kdtree.specs.Insert.{Lists, lists_of, Stored, stored_as, written, linked_left, linked_right, by_slot, insert_of}
+use Rattle.kdtree.specs.Insert.{Lists, lists_of, Stored, stored_as, written, left_linked, right_linked, linked_at, by_slot, insert_of}
 use Rattle.kdtree.specs.Nearest.{start_at, start_at_root, found_from, place_found}
 use Rattle.kdtree.proofs.Nodes.{subtree_below, found_below}
 use Rattle.kdtree.proofs.Whole as whole
@@ -92,7 +91,7 @@ module _ (xs : List Float) (m : ℕ) (d : Links) (room : Room xs m d) where
     p = point_at xs n
 
     abbrev chosen : Bool → Stored
-    chosen g = cond g (stored_as (inserted.Done (box_at p)) (written (lists n) n p n)) (by_slot (slot_at xs n (links n)) (lists n) n (rect n) p n)
+    chosen g = cond g (stored_as (Ok (box_at p)) (written (lists n) n p n)) (by_slot (slot_at xs n (links n)) (lists n) n (rect n) p n)
 
     with_room : insert_of (lists n) n (rect n) p n ≡ chosen (eqb n 0)
     unfolding insert_of
@@ -116,32 +115,32 @@ module _ (xs : List Float) (m : ℕ) (d : Links) (room : Room xs m d) where
         cc
 
     later : (s : Slot) → 0 < n → slot_at xs n (links n) ≡ s → Accepted (by_slot s (lists n) n (rect n) p n).out
-        → by_slot s (lists n) n (rect n) p n ≡ stored_as (inserted.Done (grown (rect n) p)) (lists (n + 1))
-    unfolding by_slot linked_left linked_right owned_by owned_at
+        → by_slot s (lists n) n (rect n) p n ≡ stored_as (Ok (grown (rect n) p)) (lists (n + 1))
+    unfolding by_slot linked_at left_linked right_linked owned_by owned_at
     later (slots.Left o) some e a =
-        ap (stored_as (inserted.Done (grown (rect n) p)))
+        ap (stored_as (Ok (grown (rect n) p)))
         (wrote (owned_by (slots.Left o) n (links n)) (turn_over xs n d _ some (omega (arith, room.left)) (omega (arith, room.right)) (ap (λ (s : Slot). owned_by s n (links n)) (sym e))))
     later (slots.Right o) some e a =
-        ap (stored_as (inserted.Done (grown (rect n) p)))
+        ap (stored_as (Ok (grown (rect n) p)))
         (wrote (owned_by (slots.Right o) n (links n)) (turn_over xs n d _ some (omega (arith, room.left)) (omega (arith, room.right)) (ap (λ (s : Slot). owned_by s n (links n)) (sym e))))
-    later slots.None some e a = absurd a
+    later slots.Blocked some e a = absurd a
 
   none : links 0 ≡ links_of d.left d.right
   unfolding linked
   none = let u = over_nil d.left in let v = over_nil d.right in cc
 
   -- what an accepted insert leaves
-  one : (n : ℕ) (h : n < m) → Accepted (insert_into (state n) (placed xs n)).out → insert_into (state n) (placed xs n) ≡ stored_as (inserted.Done (rect (suc n))) (lists (suc n))
+  one : (n : ℕ) (h : n < m) → Accepted (insert_into (state n) (placed xs n)).out → insert_into (state n) (placed xs n) ≡ stored_as (Ok (rect (suc n))) (lists (suc n))
   unfolding rect box_to
   one zero h a =
       with_room 0 h
-      ∙ ap (stored_as (inserted.Done (box_at (point_at xs 0))))
+      ∙ ap (stored_as (Ok (box_at (point_at xs 0))))
       (wrote 0 h (links 0)
       (ap (both_sides 0 h) none ∙ root_over xs d (omega (arith, room.left)) (omega (arith, room.right))))
   one (suc n) h a =
       let w = with_room (suc n) h ∙ ap (chosen (suc n) h) (ne_eqb (suc n) 0 (λ e. omega arith)) in
       w ∙ later (suc n) h (slot_at xs (suc n) (links (suc n))) (omega arith) refl (subst (λ (s : Stored). Accepted s.out) w a)
-      ∙ ap (λ (k : ℕ). stored_as (inserted.Done (box_to xs (suc n))) (lists k)) (add-one (suc n))
+      ∙ ap (λ (k : ℕ). stored_as (Ok (box_to xs (suc n))) (lists k)) (add-one (suc n))
 
   -- ---- the tree that is drawn
 
@@ -156,9 +155,9 @@ module _ (xs : List Float) (m : ℕ) (d : Links) (room : Room xs m d) where
   -- an insert that goes through leads to the next state
   onward : (n : ℕ) (h : n < m) (x : Numbered) (ms : List Numbered) → Next (state n) (placed xs n) x ms → Filled x ms (state (suc n))
   onward n h x ms N =
-      let e : stored_as (inserted.Done N.bounds) N.lists ≡ stored_as (inserted.Done (rect (suc n))) (lists (suc n)) = sym N.is ∙ one n h (accepted n x ms N) in
+      let e : stored_as (Ok N.bounds) N.lists ≡ stored_as (Ok (rect (suc n))) (lists (suc n)) = sym N.is ∙ one n h (accepted n x ms N) in
       let el : N.lists ≡ lists (suc n) = ap (λ (s : Stored). s.lists) e in
-      let eo : inserted.Done N.bounds ≡ inserted.Done (rect (suc n)) = ap (λ (s : Stored). s.out) e in
+      let eo : ◌≡◌ {A = Result BoundingBox Refusal} (Ok N.bounds) (Ok (rect (suc n))) = ap (λ (s : Stored). s.out) e in
       let eb : N.bounds ≡ rect (suc n) = cc in
       let et : ◌≡◌ {A = Bare} (record { lists = N.lists; count = suc n; bounds = N.bounds }) (state (suc n)) = cc in
       subst (Filled x ms) et N.filled
@@ -223,7 +222,7 @@ module _ (xs : List Float) (m : ℕ) (d : Links) (room : Room xs m d) where
   module _ (b : BoundingBox) (q : Point3) where
     pub record Placed : Type 0 where
       pub best : Best
-      pub is : place_found xs (links m).left (links m).right m b q ≡ Found best
+      pub is : place_found xs (links m).left (links m).right m b q ≡ Some best
       pub below : best.place < m
 
     -- FOR ANY BOX AND ANY QUERY a place is found
@@ -242,14 +241,14 @@ module _ (xs : List Float) (m : ℕ) (d : Links) (room : Room xs m d) where
         from : search m q F.tree b 0 s ≡ place_found xs (links m).left (links m).right m b q
         from = unfold found_from in ap (λ (t : Tree). search m q t b 0 s) (sym (rep_at (links m).left (links m).right xs m F.small F.tree 0 m (omega arith) F.rep))
 
-        small : (r : Best) → place_found xs (links m).left (links m).right m b q ≡ Found r → r.place < m
+        small : (r : Best) → place_found xs (links m).left (links m).right m b q ≡ Some r → r.place < m
         small r e =
             let z = room.some in
             unfold found_from start_at in found_below m m q (subtree (links m).left (links m).right xs m m 0) b 0 s r (subtree_below (links m).left (links m).right xs m m 0 z) z (sym e)
 
-        go : (w : Searched) → w ≡ place_found xs (links m).left (links m).right m b q → WithinVisits (s.visits + size F.tree) w → Placed
-        go (Found r) e v = record { best = r; is = sym e; below = small r (sym e) }
-        go Stopped e v = absurd v
+        go : (w : Option Best) → w ≡ place_found xs (links m).left (links m).right m b q → WithinVisits (s.visits + size F.tree) w → Placed
+        go (Some r) e v = record { best = r; is = sym e; below = small r (sym e) }
+        go None e v = absurd v
 
   -- SO NO SEARCH OVER A LOADED SET IS REFUSED, whatever the box, the bounds and the query
   pub never_refused : (look : Lookup) (q : Point3) → Below m (locate_of look m xs (links m).left (links m).right q)

@@ -15,7 +15,7 @@ use Rattle.lists.proofs.Laws.{length_over, length_upto}
 use Rattle.points.specs.declared.Point3.{Point3}
 use Rattle.points.specs.Points.{point_at, Finite}
 use Rattle.kdtree.specs.declared.BoundingBox.{BoundingBox}
-use Rattle.kdtree.specs.declared.Named.TheVariants.{Number}
+use Rattle.std.specs.Prelude.{Some, Ok}
 use Rattle.kdtree.specs.Geometry.{box_at}
 use Rattle.kdtree.specs.Insert.{Lists, lists_of}
 use Rattle.kdtree.specs.Nearest.{place_found, number_of}
@@ -109,14 +109,14 @@ module _ (xs : List Float) (k : ℕ) (d : Links) (room : Room xs (suc k) d) wher
     abbrev P : built.Placed xs m d room (box_of xs m) p
     P = built.found xs m d room (box_of xs m) p
 
-    nearest_is : nearest_in tree p ≡ Number P.best.place
+    nearest_is : nearest_in tree p ≡ Ok (Some P.best.place)
     unfolding number_of
     nearest_is =
         ap (λ (t : Bare). nearest_in t p) (built.loaded xs m d room)
         ∙ sym (whole.read (lists_of xs left right numbers) m (box_of xs m) p readable (λ e. omega arith) (place_found xs left right m (box_of xs m) p) refl)
-        ∙ ap (number_of numbers) P.is ∙ ap Number (built.number_at_lem m P.best.place (replicate m zero) P.below)
+        ∙ ap (number_of numbers) P.is ∙ ap (λ (k : ℕ). Ok (Some k)) (built.number_at_lem m P.best.place (replicate m zero) P.below)
 
-    named : nearest_in tree p ≡ Number (walk_names tree p).number
+    named : nearest_in tree p ≡ Ok (Some (walk_names tree p).number)
     unfolding filled_with placed_from
     named = demand.names begun (box_at (point_at xs 0)) (placed xs 0) (placed_from xs k 1) room_for p
 

@@ -1,25 +1,24 @@
--- What a head and a tail make of an output, that a measurement's taps lie inside the responses, and that the loops' sums are those of the list
--- of points. Assumes nothing.
-use Prim.Native.Nat.{ℕ, zero, suc, ◌+◌, ◌-◌, ◌*◌, ◌^◌, ◌≤◌, ◌<◌}
+-- What a head and a tail make of an output, that a measurement's taps lie inside the responses, and what one point more adds to a sum.
+-- Assumes nothing.
+use Prim.Native.Nat.{ℕ, min, zero, suc, ◌+◌, ◌-◌, ◌*◌, ◌≤◌, ◌<◌}
 use mathlib.Core.Path.{◌≡◌, refl, sym, ap, ◌∙◌}
-use mathlib.Core.Bool.{Bool, true, false, cond}
 use mathlib.Core.List.{List, [], ◌∷◌, ◌++◌, append_assoc, append-nil}
-use native.Mathlib.Nat.{le_of_lt, le_refl, lt_trans, lt_of_lt_of_le, mul-le-mul, mul-le-mul_right, suc-mul}
+use native.Mathlib.Nat.{le_of_lt, mul-le-mul, mul-le-mul_right, suc-mul}
 use native.Mathlib.Omega.{arith}
-use lib.Dec.{ltb}
+use native.Mathlib.Numerals.{add-one}
+use Rattle.std.proofs.lemmas.List.{replicate-append-replicate}
 use lib.ListN.{drop_of_length-le, length-take, length, take, drop, get_or, replicate, length-drop, length-replicate}
 use lib.Seq.{take-take, take-suc, get_or-drop}
 use lib.Ieee.{Float}
-use mir.Syntax.{w64}
-use mir.Val.{Fits}
-use borrow.Author.Rules.{scaled_Fits}
-use borrow.Author.Tests.{lt-ltb, le-ltb, ltb-true, ltb-false}
+use borrow.Author.Tests.{lt-ltb, le-ltb}
 use Rattle.floats.specs.Floats.{zero32}
 use Rattle.lists.specs.Over.{over, upto}
 use Rattle.lists.proofs.Laws.{take_over, length_over, length_upto}
+use Rattle.mix.specs.declared.Ear.{Ear}
+use Rattle.mix.specs.declared.Ear.TheVariants.{Left, Right}
+use Rattle.mix.specs.declared.Share.{Share}
 use Rattle.mix.specs.declared.Points.{Points}
-use Rattle.mix.specs.Mix as Mix
-use Rattle.mix.specs.Mix.{out_of, below, tailed, start_of, lesser_of, sums, sample_of, list_of, Sized}
+use Rattle.mix.specs.Mix.{receiver_of, out_of, below, tailed, start_of, sums, plus_product, list_of, Sized}
 
 -- ---- taps
 pub inside : (m r n k e : ℕ) → k < m → 2 ≤ r → e ≤ 1 → start_of r n e k + n ≤ m * r * n
@@ -39,25 +38,13 @@ product2 k r e n hk hr he hn =
     let h : k * r + e ≤ 131073 = omega (arith, product k r hk hr) in
     mul-le-mul {n₂ = 131073} {m₂ = 8192} h hn
 
--- what `start` asks of a measurement's number
-pub start_asks : (m r n k e : ℕ) → Sized m r n → k < m → e ≤ 1 → (k < 16384) × (r ≤ 8) × (n ≤ 8192) × (e ≤ 1)
-start_asks m r n k e s hk he = (lt_of_lt_of_le hk s.high, s.receivers, s.taps, he)
+pub two_ears : (ear : Ear) → receiver_of ear ≤ 1
+two_ears Left = omega arith
+two_ears Right = omega arith
 
--- ---- sample i of a run of n samples that starts at a: it is there, and its index and where its bytes start fit a usize
+-- ---- sample i of a run of n samples that starts at a is there
 pub within : (a i n len : ℕ) → i < n → a + n ≤ len → a + i < len
 within a i n len h g = omega arith
-
-pub index_fits : (k len : ℕ) → k < len → len < 2 ^ 64 → Fits w64 k
-index_fits k len h g = record { fits = lt_trans h g }
-
-pub bytes_fit : (k len : ℕ) → k < len → len * 4 < 2 ^ 63 → Fits w64 (k * 4)
-bytes_fit k len h g = scaled_Fits k len 4 h g
-
-pub next_fits : (i n : ℕ) → i < n → n < 2 ^ 64 → Fits w64 (i + 1)
-next_fits i n h g = record { fits = omega arith }
-
-pub below_all : (i n len len₀ : ℕ) → i < n → n ≤ len₀ → len ≡ len₀ → i < len
-below_all i n len len₀ h g e = omega arith
 
 -- ---- a list of values: the same ones, more of them, and those of a part
 module _ {A : Type 0} where
@@ -77,14 +64,10 @@ module _ {A : Type 0} where
       plus_zero_lem k = omega arith
   upto_const f v k (suc j) h =
       ap (upto f) (up k j)
-      ∙ rw (upto_const f v k j (λ i p q. h i p (omega arith)), h (k + j) (omega arith) (omega arith), append_assoc) (ap (λ (l : List A). upto f k ++ l) (snoc j))
+      ∙ rw (upto_const f v k j (λ i p q. h i p (omega arith)), h (k + j) (omega arith) (omega arith), append_assoc) (ap (λ (l : List A). upto f k ++ l) (replicate-append-replicate j 1 v ∙ ap (λ (i : ℕ). replicate i v) (add-one j)))
     where
       up : (k j : ℕ) → k + suc j ≡ suc (k + j)
       up k j = omega arith
-
-      snoc : (j : ℕ) → replicate j v ++ (v ∷ []) ≡ replicate (suc j) v
-      snoc zero = refl
-      snoc (suc j) = ap (λ (l : List A). v ∷ l) (snoc j)
 
   pub take_upto : (s : List A) (d : A) (a k : ℕ) → a + k ≤ length s → take k (drop a s) ≡ upto (λ i. get_or s (a + i) d) k
   unfolding upto
@@ -131,55 +114,19 @@ whole f n k d h g a =
     shorter : (k l : ℕ) → k ≤ l → k + (l - k) ≡ l
     shorter k l h = omega arith
 
--- ---- the shorter of two
-pub lesser_left : (a b : ℕ) → lesser_of a b ≤ a
-lesser_left a b = go (ltb a b) refl
-  where
-    go : (t : Bool) → ltb a b ≡ t → cond t a b ≤ a
-    go true e = le_refl a
-    go false e = ltb-false a b e
+-- ---- the shorter of two: past it, within one, is past the other
+pub shorter_past : (a b i k : ℕ) → k ≡ min a b → k ≤ i → i < b → a ≤ i
+shorter_past a b i k e h g = omega arith
 
-pub lesser_right : (a b : ℕ) → lesser_of a b ≤ b
-lesser_right a b = go (ltb a b) refl
-  where
-    go : (t : Bool) → ltb a b ≡ t → cond t a b ≤ b
-    go true e = le_of_lt (ltb-true a b e)
-    go false e = le_refl b
+-- ---- the sum over one point more
+pub sums_more : (f : ℕ → Float) (s : Float) (ps : List Share) (j : ℕ) (d : Share) → j < length ps
+    → sums f s (take (suc j) ps) ≡ plus_product (sums f s (take j ps)) (get_or ps j d).weight (f (get_or ps j d).number)
+unfolding sums
+sums_more f s [] j d h = absurd (omega arith)
+sums_more f s (p ∷ ps) zero d h = refl
+sums_more f s (p ∷ ps) (suc j) d h = sums_more f (plus_product s p.weight (f p.number)) ps j d (omega arith)
 
-pub lesser_past : (a b : ℕ) (i : ℕ) → lesser_of a b ≤ i → i < b → a ≤ i
-lesser_past a b i = go (ltb a b) refl
-  where
-    go : (t : Bool) → ltb a b ≡ t → cond t a b ≤ i → i < b → a ≤ i
-    go true e h g = h
-    go false e h g = absurd (omega arith)
-
--- ---- the sums of the loops are those of the list of points
-module _ (p : Points) (s : List Float) (r n e : ℕ) where
-  abbrev counted : ℕ → ℕ → Float
-  counted k = sample_of s r n e (take k (p.a ∷ p.b ∷ p.c ∷ p.d ∷ []))
-
-  pub is1 : (a : ℕ) → a ≡ start_of r n e p.a.number → p.count ≡ 1 → Mix.mix1 s a p.a.weight ≡ sample_of s r n e (list_of p)
-  unfolding sample_of sums list_of
-  is1 a ea ec = rw ea (ap counted (sym ec))
-
-  pub is2 : (a b : ℕ) → a ≡ start_of r n e p.a.number → b ≡ start_of r n e p.b.number → p.count ≡ 2 → Mix.mix2 s a b p.a.weight p.b.weight ≡ sample_of s r n e (list_of p)
-  unfolding sample_of sums list_of
-  is2 a b ea eb ec = rw (ea, eb) (ap counted (sym ec))
-
-  pub is3 : (a b c : ℕ) → a ≡ start_of r n e p.a.number → b ≡ start_of r n e p.b.number → c ≡ start_of r n e p.c.number → p.count ≡ 3
-      → Mix.mix3 s a b c p.a.weight p.b.weight p.c.weight ≡ sample_of s r n e (list_of p)
-  unfolding sample_of sums list_of
-  is3 a b c ea eb ec e3 = rw (ea, eb, ec) (ap counted (sym e3))
-
-  pub is4 : (a b c d : ℕ) → a ≡ start_of r n e p.a.number → b ≡ start_of r n e p.b.number → c ≡ start_of r n e p.c.number → d ≡ start_of r n e p.d.number → p.count ≡ 4
-      → Mix.mix4 s a b c d p.a.weight p.b.weight p.c.weight p.d.weight ≡ sample_of s r n e (list_of p)
-  unfolding sample_of sums list_of
-  is4 a b c d ea eb ec ed e4 = rw (ea, eb, ec, ed) (ap counted (sym e4))
-
--- the last way of a match on the count
-pub four_left : (k : ℕ) → (k ≡ 1 → ⊥) → (k ≡ 2 → ⊥) → (k ≡ 3 → ⊥) → 1 ≤ k → k ≤ 4 → k ≡ 4
-four_left k a b c h g = omega arith
-
--- an output over which a loop wrote f has g there too, where f and g are one function
-pub wrote_same : {f g : ℕ → Float} → f ≡ g → (k : ℕ) (d out : List Float) → out ≡ over (upto f k) d → out ≡ over (upto g k) d
-wrote_same e k d out h = h ∙ ap (λ (f : ℕ → Float). over (upto f k) d) e
+-- the first points of four, where so many are counted
+pub counted : (p : Points) (k : ℕ) → p.count ≡ k → take k (p.a ∷ p.b ∷ p.c ∷ p.d ∷ []) ≡ list_of p
+unfolding list_of
+counted p k e = ap (λ (j : ℕ). take j (p.a ∷ p.b ∷ p.c ∷ p.d ∷ [])) (sym e)

@@ -4,8 +4,15 @@ use Rattle.std.specs.Float.{nan, binary32}
 use Rattle.std.specs.Float.Ieee.{add, mul}
 use Rattle.floats.specs.Floats.{zero32}
 use Rattle.lists.specs.Over.{upto}
+use Rattle.mix.specs.declared.Ear.{Ear}
+use Rattle.mix.specs.declared.Ear.TheVariants.{Left, Right}
 use Rattle.mix.specs.declared.Share.{Share}
 use Rattle.mix.specs.declared.Points.{Points}
+
+-- the number of an ear among the receivers of a measurement
+abbrev pub receiver_of : Ear → ℕ
+receiver_of Left = 0
+receiver_of Right = 1
 
 -- one more product, rounded, added to the sum so far, rounded
 abbrev pub plus_product : Float → Float → Float → Float
@@ -43,9 +50,6 @@ tailed k d = take k d ++ replicate (length d - k) zero32
 unfoldable pub list_of : Points → List Share
 list_of p = take p.count (p.a ∷ p.b ∷ p.c ∷ p.d ∷ [])
 
-abbrev pub lesser_of : ℕ → ℕ → ℕ
-lesser_of a b = cond (ltb a b) a b
-
 -- sizes that document 01 allows
 pub record Sized (m r n : ℕ) : Type 0 where
   pub high : m ≤ 16384
@@ -61,16 +65,3 @@ pub record Placed (m : ℕ) (p : Points) : Type 0 where
   pub b_in : p.b.number < m
   pub c_in : p.c.number < m
   pub d_in : p.d.number < m
-
--- the sums that the loops make
-abbrev pub mix1 : List Float → ℕ → Float → ℕ → Float
-mix1 s a w i = plus_product zero32 w (get_or s (a + i) nan)
-
-abbrev pub mix2 : List Float → ℕ → ℕ → Float → Float → ℕ → Float
-mix2 s a b w x i = plus_product (mix1 s a w i) x (get_or s (b + i) nan)
-
-abbrev pub mix3 : List Float → ℕ → ℕ → ℕ → Float → Float → Float → ℕ → Float
-mix3 s a b c w x y i = plus_product (mix2 s a b w x i) y (get_or s (c + i) nan)
-
-abbrev pub mix4 : List Float → ℕ → ℕ → ℕ → ℕ → Float → Float → Float → Float → ℕ → Float
-mix4 s a b c d w x y z i = plus_product (mix3 s a b c w x y i) z (get_or s (d + i) nan)

@@ -1,14 +1,33 @@
 // One ear of a filter: the taps of one to four measurements, weighed and added up in one pass over the samples, or the taps of one as they are.
 //
 // Copies stop at the shorter of n and the output, and the rest of the output is +0: `out_of` (specs/Mix.antt) says what a whole output then
-// holds, sample by sample. `mix1` to `mix4` are the inner loops. They take the places where the sources start in one list of responses, so that
-// no part of it is borrowed in the loop and no index is tested: the contracts bound the places.
+// holds, sample by sample. `mix` is the inner loop. How many points it adds up is part of its type, so that each count has a loop of its own, and
+// no index is tested: the contract bounds the places.
 #![tactic(auto)]
 
 ghost use Rattle.std.specs.Prelude.{◌≡◌, ◌+◌, ◌*◌, ◌≤◌, ◌<◌, length};
+ghost use Rattle.std.specs.List.{All};
 ghost use Rattle.lists.specs.Over.{over, upto};
-ghost use Rattle.mix.specs.Mix.{start_of, tap_of, sample_of, out_of, tailed, list_of, lesser_of, Sized, Placed};
-ghost use Rattle.mix.specs.Mix as Mix;
+ghost use Rattle.mix.specs.Mix.{receiver_of, start_of, tap_of, sample_of, out_of, tailed, list_of, Sized, Placed};
+
+// Two receivers are asked for, the first and the second of each measurement.
+#[derive(Clone, Copy)]
+pub enum Ear {
+    Left,
+    Right,
+}
+
+impl Ear {
+    // By a match, not `as usize`: it is document 01's number of each receiver, whatever the order of the cases.
+    pub fn receiver(self) -> usize
+        ensures { result ≡ receiver_of self }
+    {
+        match self {
+            Ear::Left => 0,
+            Ear::Right => 1,
+        }
+    }
+}
 
 // A measurement and its weight.
 #[derive(Clone, Copy)]
@@ -17,7 +36,8 @@ pub struct Share {
     pub weight: f32,
 }
 
-// One to four points, in order: the first `count` places.
+// One to four points, in order: the first `count` places. Places by value and their count, since no memory is taken for a list of so few.
+// `Placed` is asked with each call, since it speaks of the set's m: a ghost field would have to carry m along.
 #[derive(Clone, Copy)]
 pub struct Points {
     pub count: usize,
@@ -27,15 +47,26 @@ pub struct Points {
     pub d: Share,
 }
 
-// Where the taps of measurement k for receiver e start.
-pub fn start(k: usize, r: usize, n: usize, e: usize) -> usize
+// The taps of M measurements, for each of R receivers, N samples each, one after the other, at the front of a lent list.
+#[derive(Clone, Copy)]
+pub struct Responses<'a> {
+    pub taps: &'a [f32],
+    pub m: usize,
+    pub r: usize,
+    pub n: usize,
+    pub ghost sized: { Sized m r n },
+    pub ghost whole: { m * r * n ≤ length taps.now },
+}
+
+// Where the taps of measurement k for an ear start.
+// By numbers and no `Responses`: it is also asked where only the sizes are known.
+pub fn start(k: usize, r: usize, n: usize, ear: Ear) -> usize
     requires { (k < 16384)
         × (r ≤ 8)
-        × (n ≤ 8192)
-        × (e ≤ 1) }
-    ensures { result ≡ start_of r n e k }
+        × (n ≤ 8192) }
+    ensures { result ≡ start_of r n (receiver_of ear) k }
 {
-    (k * r + e) * n
+    (k * r + ear.receiver()) * n
 }
 
 // +0 from sample k on.
@@ -47,138 +78,59 @@ pub fn silence(out: &mut [f32], k: usize)
     lists::zeros(&mut out[k..], rest);
 }
 
-fn mix1(out: &mut [f32], src: &[f32], a: usize, w: f32, n: usize)
-    requires { (n ≤ length out.old)
-        × (a + n ≤ length src.now) }
-    ensures { out.new ≡ over (upto (Mix.mix1 src.now a w) n) out.old }
-{
-    let mut i = 0;
-    while i < n {
-        out[i] = 0.0 + src[a + i] * w;
-        i += 1;
+impl<'a> Responses<'a> {
+    // The first k samples of an ear: the taps of these points, weighed and added up in their order, in one pass.
+    fn mix<const K: usize>(&self, points: &[Share; K], ear: Ear, k: usize, out: &mut [f32])
+        requires { All (λ p. p.number < self.now.m) points.now
+            × (k ≤ self.now.n)
+            × (k ≤ length out.old) }
+        ensures { out.new ≡ over (upto (sample_of self.now.taps.now self.now.r self.now.n (receiver_of ear) points.now) k) out.old }
+    {
+        // By value: the loop writes floats, and may not wait for a size that it could have changed.
+        let Responses { taps, r, n, .. } = *self;
+        for i in 0..k {
+            let mut sum = 0.0;
+            for p in points {
+                sum += taps[start(p.number, r, n, ear) + i] * p.weight;
+            }
+            out[i] = sum;
+        }
     }
-}
 
-fn mix2(out: &mut [f32], src: &[f32], a: usize, b: usize, w: f32, x: f32, n: usize)
-    requires { (n ≤ length out.old)
-        × (a + n ≤ length src.now)
-        × (b + n ≤ length src.now) }
-    ensures { out.new ≡ over (upto (Mix.mix2 src.now a b w x) n) out.old }
-{
-    let mut i = 0;
-    while i < n {
-        out[i] = 0.0 + src[a + i] * w + src[b + i] * x;
-        i += 1;
+    // The first k samples of an ear's blend.
+    fn head(&self, p: Points, ear: Ear, k: usize, out: &mut [f32])
+        requires { Placed self.now.m p
+            × (k ≤ self.now.n)
+            × (k ≤ length out.old) }
+        ensures { out.new ≡ over (upto (sample_of self.now.taps.now self.now.r self.now.n (receiver_of ear) (list_of p)) k) out.old }
+    {
+        let count = p.count;
+        match count {
+            1 => self.mix(&[p.a], ear, k, out),
+            2 => self.mix(&[p.a, p.b], ear, k, out),
+            3 => self.mix(&[p.a, p.b, p.c], ear, k, out),
+            _ => self.mix(&[p.a, p.b, p.c, p.d], ear, k, out),
+        }
     }
-}
 
-fn mix3(
-    out: &mut [f32],
-    src: &[f32],
-    a: usize,
-    b: usize,
-    c: usize,
-    w: f32,
-    x: f32,
-    y: f32,
-    n: usize,
-)
-    requires { (n ≤ length out.old)
-        × (a + n ≤ length src.now)
-        × (b + n ≤ length src.now)
-        × (c + n ≤ length src.now) }
-    ensures { out.new ≡ over (upto (Mix.mix3 src.now a b c w x y) n) out.old }
-{
-    let mut i = 0;
-    while i < n {
-        out[i] = 0.0 + src[a + i] * w + src[b + i] * x + src[c + i] * y;
-        i += 1;
+    // An ear of a blend: the shorter of n and the output, then +0.
+    pub fn blend_ear(&self, p: Points, ear: Ear, out: &mut [f32])
+        requires { Placed self.now.m p }
+        ensures { out.new ≡ out_of (sample_of self.now.taps.now self.now.r self.now.n (receiver_of ear) (list_of p)) self.now.n (length out.old) }
+    {
+        let k = self.n.min(out.len());
+        self.head(p, ear, k, out);
+        silence(out, k);
     }
-}
 
-fn mix4(
-    out: &mut [f32],
-    src: &[f32],
-    a: usize,
-    b: usize,
-    c: usize,
-    d: usize,
-    w: f32,
-    x: f32,
-    y: f32,
-    z: f32,
-    n: usize,
-)
-    requires { (n ≤ length out.old)
-        × (a + n ≤ length src.now)
-        × (b + n ≤ length src.now)
-        × (c + n ≤ length src.now)
-        × (d + n ≤ length src.now) }
-    ensures { out.new ≡ over (upto (Mix.mix4 src.now a b c d w x y z) n) out.old }
-{
-    let mut i = 0;
-    while i < n {
-        out[i] = 0.0 + src[a + i] * w + src[b + i] * x + src[c + i] * y + src[d + i] * z;
-        i += 1;
+    // An ear of one measurement, its taps as they are.
+    pub fn copy_ear(&self, number: usize, ear: Ear, out: &mut [f32])
+        requires { number < self.now.m }
+        ensures { out.new ≡ out_of (λ i. tap_of self.now.taps.now self.now.r self.now.n (receiver_of ear) i number) self.now.n (length out.old) }
+    {
+        let k = self.n.min(out.len());
+        let a = start(number, self.r, self.n, ear);
+        lists::copy(&self.taps[a..], out, k);
+        silence(out, k);
     }
-}
-
-// The first k samples of an ear's blend.
-fn head(out: &mut [f32], src: &[f32], p: Points, m: usize, r: usize, n: usize, e: usize, k: usize)
-    requires { Sized m r n
-        × Placed m p
-        × (e ≤ 1)
-        × (m * r * n ≤ length src.now)
-        × (k ≤ n)
-        × (k ≤ length out.old) }
-    ensures { out.new ≡ over (upto (sample_of src.now r n e (list_of p)) k) out.old }
-{
-    let a = start(p.a.number, r, n, e);
-    let b = start(p.b.number, r, n, e);
-    let c = start(p.c.number, r, n, e);
-    let d = start(p.d.number, r, n, e);
-    let w = p.a.weight;
-    let x = p.b.weight;
-    let y = p.c.weight;
-    let z = p.d.weight;
-    let count = p.count;
-    match count {
-        1 => mix1(out, src, a, w, k),
-        2 => mix2(out, src, a, b, w, x, k),
-        3 => mix3(out, src, a, b, c, w, x, y, k),
-        _ => mix4(out, src, a, b, c, d, w, x, y, z, k),
-    }
-}
-
-fn lesser(a: usize, b: usize) -> usize
-    ensures { result ≡ lesser_of a b }
-{
-    if a < b { a } else { b }
-}
-
-// Receiver e of a blend: the shorter of n and the output, then +0.
-pub fn blend_ear(out: &mut [f32], src: &[f32], p: Points, m: usize, r: usize, n: usize, e: usize)
-    requires { Sized m r n
-        × Placed m p
-        × (e ≤ 1)
-        × (m * r * n ≤ length src.now) }
-    ensures { out.new ≡ out_of (sample_of src.now r n e (list_of p)) n (length out.old) }
-{
-    let k = lesser(n, out.len());
-    head(out, src, p, m, r, n, e, k);
-    silence(out, k);
-}
-
-// Receiver e of one measurement, its taps as they are.
-pub fn copy_ear(out: &mut [f32], src: &[f32], number: usize, m: usize, r: usize, n: usize, e: usize)
-    requires { Sized m r n
-        × (number < m)
-        × (e ≤ 1)
-        × (m * r * n ≤ length src.now) }
-    ensures { out.new ≡ out_of (λ i. tap_of src.now r n e i number) n (length out.old) }
-{
-    let k = lesser(n, out.len());
-    let a = start(number, r, n, e);
-    lists::copy(&src[a..], out, k);
-    silence(out, k);
 }

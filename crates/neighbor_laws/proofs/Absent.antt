@@ -71,12 +71,12 @@ module _ (look : Lookup) (m : ℕ) (xs : List Float) (left right : List ℕ) (ow
 
   gave_own : (f : Located) (g : Reached) → unless_own own f g ≡ Absent → (f ≡ located.At own) × (g ≡ Absent)
   unfolding unless_own
-  gave_own (located.Refused c p) g e = let z : ◌≡◌ {A = ℕ} 0 1 = cc in absurd (omega arith)
+  gave_own (located.Refused refusal) g e = absurd cc
   gave_own (located.At n) g e = by (eqb n own) (eqb→eq n own) e
     where
       by : (b : Bool) → (T b → n ≡ own) → cond b g (At n) ≡ Absent → (located.At n ≡ located.At own) × (g ≡ Absent)
       by true f e = (ap located.At (f tt), e)
-      by false f e = let z : ◌≡◌ {A = ℕ} 0 1 = cc in absurd (omega arith)
+      by false f e = absurd cc
 
   absent_only : (k i : ℕ) → go k i ≡ Absent → OnlyOwn k i
   absent_only zero i e s l u met = absurd (omega arith)

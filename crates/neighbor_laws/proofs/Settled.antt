@@ -8,11 +8,11 @@ use lib.Dec.{T, eqb, eqb→eq}
 use lib.Ieee.Fits.{eq→eqb}
 use lib.ListN.{length}
 use lib.Ieee.{Float}
+use Rattle.std.specs.Prelude.{Ok}
 use Rattle.lists.specs.Over.{over, upto}
 use Rattle.points.specs.Points.{point_at}
 use Rattle.coords.specs.declared.Spherical.{Spherical}
 use Rattle.coords.specs.Coords.{spherical_of, cartesian_of}
-use Rattle.limits.specs.declared.Verdict.TheVariants.{Fine}
 use Rattle.lookup.specs.declared.Lookup.{Lookup}
 use Rattle.lookup.specs.declared.Located.{Located}
 use Rattle.lookup.specs.Build.{Links, linked}
@@ -29,12 +29,12 @@ use Rattle.neighbor_laws.specs.Settled.{Settles, Entry}
 settled_writes : (m own : ℕ) (r : Reached) → Settles m own r → Writes r (mark_of r)
 settled_writes m own (At n) s = refl
 settled_writes m own Absent s = refl
-settled_writes m own (Refused k p) s = absurd s
+settled_writes m own (Refused refusal) s = absurd s
 
 settled_entry : (m own : ℕ) (r : Reached) → Settles m own r → Entry m own (mark_of r)
 settled_entry m own (At n) s = inr s
 settled_entry m own Absent s = inl refl
-settled_entry m own (Refused k p) s = absurd s
+settled_entry m own (Refused refusal) s = absurd s
 
 module _ (xs : List Float) (m : ℕ) (d : Links) (room : Room xs m d) (look : Lookup) where
   abbrev left : List ℕ
@@ -86,6 +86,6 @@ module _ (xs : List Float) (m : ℕ) (d : Links) (room : Room xs m d) (look : Lo
 
     -- THE TABLE IS FILLED: no refusal, 6m numbers, and the rest is as it was
     pub filled : (table : List ℕ) → 6 * m ≤ length table
-        → table_of look m xs left right angle radius table ≡ tabled_as Fine (over (upto (λ k. mark_of (entry k)) (6 * m)) table)
+        → table_of look m xs left right angle radius table ≡ tabled_as (Ok tt) (over (upto (λ k. mark_of (entry k)) (6 * m)) table)
     unfolding table_of
     filled table h = all_answered entry (λ k. mark_of (entry k)) table (6 * m) (λ k l. settled_writes m (k / 6) (entry k) (settled k)) h

@@ -8,7 +8,7 @@ use Rattle.neighbors.specs.Neighbors.{absent_mark}
 abbrev pub Settles : ℕ → ℕ → Reached → Type 0
 Settles m own (At n) = (n < m) × (n ≡ own → ⊥)
 Settles m own Absent = Unit
-Settles m own (Refused k p) = ⊥
+Settles m own (Refused refusal) = ⊥
 
 -- the same of the number that the table holds
 abbrev pub Entry : ℕ → ℕ → ℕ → Type 0

@@ -1,18 +1,19 @@
 -- One turn of a search in the terms of the code: where the step leads, whether it leaves, what is found there. Assumes nothing.
-use Rattle.std.proofs.Common.{◌≡◌, ℕ, suc, ◌+◌, ◌-◌, ◌≤◌, Bool, true, false, cond, ◌&&◌, ltb, List, sym, ap, ◌∙◌, arith, eq-eqb, ne_eqb}
-use lib.Ieee.{Float, eq}
+use Rattle.std.proofs.Common.{◌≡◌, ℕ, suc, ◌+◌, ◌≤◌, Bool, true, false, cond, ◌&&◌, ltb, sym, ap, ◌∙◌, eq-eqb, ne_eqb}
+use lib.Ieee.{eq}
 use Rattle.floats.specs.Floats.{zero32}
+use Rattle.refusals.specs.declared.Refusal.{Refusal}
 use Rattle.points.specs.declared.Point3.{Point3}
 use Rattle.coords.specs.declared.Spherical.{Spherical}
 use Rattle.coords.specs.declared.Turn.{Turn}
 use Rattle.coords.specs.Coords.{turn_of, along_of, cartesian_of}
-use Rattle.lookup.specs.declared.Lookup.{Lookup}
 use Rattle.lookup.specs.declared.Located.{Located}
 use Rattle.lookup.specs.declared.Located.TheVariants as located
 use Rattle.lookup.specs.Lookup.{locate_of}
+use Rattle.neighbors.specs.declared.Surroundings.{Surroundings}
 use Rattle.neighbors.specs.declared.Reached.{Reached}
 use Rattle.neighbors.specs.declared.Reached.TheVariants.{At, Absent}
-use Rattle.neighbors.specs.Neighbors.{after, tilted, moved, leaves, passed_on, unless_own, going, direction_of}
+use Rattle.neighbors.specs.Neighbors.{after, tilted, moved, leaves, passed_on, unless_own, going}
 use Rattle.neighbors.proofs.Fixed.{Kept, turned_is, kept_on}
 
 -- ---- the point that a step leads to, of turns that may be kept
@@ -44,13 +45,27 @@ module _ (from step : Spherical) (i : ℕ) (h : i + 1 ≤ 4294967296) (there : S
 
 -- ---- one turn
 
-module _ (look : Lookup) (m : ℕ) (xs : List Float) (left right : List ℕ) (own : ℕ) (from step : Spherical) where
-  abbrev go : ℕ → ℕ → Reached
-  go k i = going look m xs left right own from step k i
+-- what a found number comes to
+module _ (own : ℕ) (found : Located) (further : Reached) where
+  pub refused : (refusal : Refusal) → found ≡ located.Refused refusal → (r : Reached) → r ≡ passed_on found → r ≡ unless_own own found further
+  unfolding unless_own
+  refused refusal h r er = er ∙ ap passed_on h ∙ sym (ap (λ (f : Located). unless_own own f further) h)
 
-  pub start : (cap : ℕ) → go (cap - 0) 0 ≡ direction_of look m xs left right own from step cap
-  unfolding direction_of
-  start cap = let e : cap - 0 ≡ cap = omega arith in ap (λ (k : ℕ). go k 0) e
+  pub other : (n : ℕ) → found ≡ located.At n → (n ≡ own → ⊥) → At n ≡ unless_own own found further
+  unfolding unless_own
+  other n h f = sym (ap (λ (f : Located). unless_own own f further) h ∙ ap (λ (b : Bool). cond b further (At n)) (ne_eqb n own f))
+
+  pub same : (n : ℕ) → found ≡ located.At n → n ≡ own → further ≡ unless_own own found further
+  unfolding unless_own
+  same n h f = sym (ap (λ (f : Located). unless_own own f further) h ∙ ap (λ (b : Bool). cond b further (At n)) (eq-eqb n own f))
+
+module _ (s : Surroundings) (from step : Spherical) where
+  abbrev found_at : Point3 → Located
+  found_at q = locate_of s.look s.tree.count s.tree.positions.now s.tree.left.now s.tree.right.now q
+
+  -- k steps are left when i are done
+  abbrev pub go : ℕ → ℕ → Reached
+  go k i = going s.look s.tree.count s.tree.positions.now s.tree.left.now s.tree.right.now s.own from step k i
 
   pub at_end : (k i : ℕ) → k ≡ 0 → Absent ≡ go k i
   unfolding going
@@ -58,34 +73,17 @@ module _ (look : Lookup) (m : ℕ) (xs : List Float) (left right : List ℕ) (ow
 
   module _ (k j i : ℕ) (ek : k ≡ suc j) (there : Spherical) (et : there ≡ moved from step (i + 1)) where
     abbrev chosen : Bool → Spherical → Reached
-    chosen b p = elim b [ true ↦ Absent | false ↦ unless_own own (locate_of look m xs left right (cartesian_of p)) (go j (i + 1)) ]
+    chosen b p = elim b [ true ↦ Absent | false ↦ unless_own s.own (found_at (cartesian_of p)) (go j (i + 1)) ]
 
-    opened : go k i ≡ chosen (leaves look step.radius (moved from step (i + 1)).radius) (moved from step (i + 1))
+    by : (b : Bool) → leaves s.look step.radius there.radius ≡ b → go k i ≡ chosen b there
     unfolding going
-    opened = ap (λ (n : ℕ). go n i) ek
-
-    by : (b : Bool) → leaves look step.radius there.radius ≡ b → go k i ≡ chosen b there
     by b e =
-        opened ∙ ap (λ (p : Spherical). chosen (leaves look step.radius p.radius) p) (sym et) ∙ ap (λ (c : Bool). chosen c there) e
+        ap (λ (n : ℕ). go n i) ek ∙ ap (λ (p : Spherical). chosen (leaves s.look step.radius p.radius) p) (sym et) ∙ ap (λ (c : Bool). chosen c there) e
 
-    pub out : leaves look step.radius there.radius ≡ true → Absent ≡ go k i
+    pub out : leaves s.look step.radius there.radius ≡ true → Absent ≡ go k i
     out e = sym (by true e)
 
-    module _ (e : leaves look step.radius there.radius ≡ false) (q : Point3) (eqq : q ≡ cartesian_of there) (found : Located)
-        (ef : found ≡ locate_of look m xs left right q) where
-      met : go k i ≡ unless_own own found (go j (i + 1))
-      met =
-          by false e ∙ ap (λ (p : Point3). unless_own own (locate_of look m xs left right p) (go j (i + 1))) (sym eqq)
-          ∙ ap (λ (f : Located). unless_own own f (go j (i + 1))) (sym ef)
-
-      pub refused : (c p : ℕ) → found ≡ located.Refused c p → (r : Reached) → r ≡ passed_on found → r ≡ go k i
-      unfolding unless_own
-      refused c p h r er = er ∙ ap passed_on h ∙ sym (met ∙ ap (λ (f : Located). unless_own own f (go j (i + 1))) h)
-
-      pub other : (n : ℕ) → found ≡ located.At n → (n ≡ own → ⊥) → At n ≡ go k i
-      unfolding unless_own
-      other n h f = sym (met ∙ ap (λ (f : Located). unless_own own f (go j (i + 1))) h ∙ ap (λ (b : Bool). cond b (go j (i + 1)) (At n)) (ne_eqb n own f))
-
-      pub same : (n : ℕ) → found ≡ located.At n → n ≡ own → go j (i + 1) ≡ go k i
-      unfolding unless_own
-      same n h f = sym (met ∙ ap (λ (f : Located). unless_own own f (go j (i + 1))) h ∙ ap (λ (b : Bool). cond b (go j (i + 1)) (At n)) (eq-eqb n own f))
+    pub stayed : leaves s.look step.radius there.radius ≡ false → (q : Point3) → q ≡ cartesian_of there → (found : Located) → found ≡ found_at q
+        → unless_own s.own found (go j (i + 1)) ≡ go k i
+    stayed e q eqq found ef =
+        sym (by false e ∙ ap (λ (p : Point3). unless_own s.own (found_at p) (go j (i + 1))) (sym eqq) ∙ ap (λ (f : Located). unless_own s.own f (go j (i + 1))) (sym ef))

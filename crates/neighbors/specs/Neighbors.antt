@@ -1,13 +1,12 @@
 -- Document 01's "Neighbours": the first found number other than its own, by steps in one of six directions, and the table of all of them. Definitions only.
-use Rattle.std.specs.Prelude.{ℕ, zero, suc, ◌+◌, ◌*◌, ◌/◌, ◌%◌, Bool, true, false, cond, ◌||◌, List, pos, ◌==◌, from_bits, nat_lt, slice_set, Float}
+use Rattle.std.specs.Prelude.{ℕ, zero, suc, ◌+◌, ◌*◌, ◌/◌, ◌%◌, Bool, true, false, cond, ◌||◌, List, pos, ◌==◌, from_bits, nat_lt, slice_set, Float, ⊤, Result, Ok, Err}
+use Rattle.refusals.specs.declared.Refusal.{Refusal}
 use Rattle.std.specs.Float.{binary32}
 use Rattle.std.specs.Float.Ieee.{add, sub, mul, div, neg, lt, of_int}
 use Rattle.floats.specs.Floats.{zero32, abs_of, max_of, clamp_of, ceil_of}
 use Rattle.points.specs.Points.{point_at}
 use Rattle.coords.specs.declared.Spherical.{Spherical}
 use Rattle.coords.specs.Coords.{spherical_of, cartesian_of}
-use Rattle.limits.specs.declared.Verdict.{Verdict}
-use Rattle.limits.specs.declared.Verdict.TheVariants as verdict
 use Rattle.lookup.specs.declared.Lookup.{Lookup}
 use Rattle.lookup.specs.declared.Located.{Located}
 use Rattle.lookup.specs.declared.Located.TheVariants as located
@@ -66,12 +65,12 @@ cap_of d angle = cond (nat_lt d 4) (angle_cap angle) 100
 -- a step's answer as that of its direction
 abbrev pub passed_on : Located → Reached
 passed_on (located.At n) = At n
-passed_on (located.Refused k p) = Refused k p
+passed_on (located.Refused refusal) = Refused refusal
 
 -- a number other than its own is the neighbour, and a refusal is passed on
 unfoldable pub unless_own : ℕ → Located → Reached → Reached
 unless_own own (located.At n) further = cond (n == own) further (At n)
-unless_own own (located.Refused k p) further = Refused k p
+unless_own own (located.Refused refusal) further = Refused refusal
 
 module _ (look : Lookup) (m : ℕ) (xs : List Float) (left right : List ℕ) where
   -- k steps are left when i are done
@@ -102,26 +101,26 @@ absent_mark = 65535
 abbrev pub mark_of : Reached → ℕ
 mark_of (At n) = n
 mark_of Absent = absent_mark
-mark_of (Refused k p) = absent_mark
+mark_of (Refused refusal) = absent_mark
 
 -- what a call answers, and what the table then holds
 pub record Tabled : Type 0 where
-  pub answer : Verdict
+  pub answer : Result ⊤ Refusal
   pub table : List ℕ
 
-abbrev pub tabled_as : Verdict → List ℕ → Tabled
+abbrev pub tabled_as : Result ⊤ Refusal → List ℕ → Tabled
 tabled_as v d = record { answer = v; table = d }
 
 -- a number or the mark is written, and a refusal ends it
 abbrev pub by_entry : Reached → List ℕ → (ℕ → Tabled) → Tabled
 by_entry (At n) d f = f n
 by_entry Absent d f = f absent_mark
-by_entry (Refused k p) d f = tabled_as (verdict.Refused k p) d
+by_entry (Refused refusal) d f = tabled_as (Err refusal) d
 
 -- j entries from the place k on, until one refuses
 module _ (entry : ℕ → Reached) where
   unfoldable pub writing : ℕ → ℕ → List ℕ → Tabled
-  writing zero k d = tabled_as verdict.Fine d
+  writing zero k d = tabled_as (Ok tt) d
   writing (suc j) k d = by_entry (entry k) d (λ n. writing j (k + 1) (slice_set d k n))
 
 -- the six entries of a measurement

@@ -1,13 +1,12 @@
 -- Document 01's proved examples, P1 to P12, as one table. P1 to P7: what is loaded into a bare tree, in this order, the query, and the answer; of P6 also that
 -- both distances are infinite. P8 to P11: a point and what the radius clamp makes of it, radii all 1; of P11 also that r is infinite. P12: an angle step and its
 -- cap. The theorem `table` is in proofs/Table.antt. Definitions only.
-use Rattle.std.specs.Prelude.{◌≡◌, false, List, [], ◌∷◌, ℕ, replicate, Float}
+use Rattle.std.specs.Prelude.{◌≡◌, false, List, [], ◌∷◌, ℕ, replicate, Float, Option, None, Some, Result, Ok}
 use Rattle.std.specs.Float.{nan, inf, binary32}
 use Rattle.std.specs.Float.Ieee.{of_bits}
 use Rattle.floats.specs.Floats.{one32}
 use Rattle.points.specs.declared.Point3.{Point3}
-use Rattle.kdtree.specs.declared.Named.{Named}
-use Rattle.kdtree.specs.declared.Named.TheVariants.{Nothing, Number}
+use Rattle.refusals.specs.declared.Refusal.{Refusal}
 use Rattle.lists.specs.Each.{Each}
 use Rattle.kdtree_laws.specs.Demand3.{Numbered, dist_to, Bare, empty, fill, nearest_in}
 use Rattle.coords.specs.Coords.{radius_of}
@@ -32,7 +31,7 @@ blank =
 
 pub data Row : Type 0 where
   -- measurements loaded, a query, the answer
-  tree : List Numbered → Point3 → Named → Row
+  tree : List Numbered → Point3 → Result (Option ℕ) Refusal → Row
   -- measurements whose squared distance from a query is +infinity
   far : List Numbered → Point3 → Row
   -- a point, and what it is clamped to between the radii 1 and 1
@@ -51,34 +50,34 @@ Holds (cap step steps) = angle_cap step ≡ steps
 
 -- none: nothing
 abbrev pub p1 : Row
-p1 = tree [] origin Nothing
+p1 = tree [] origin (Ok None)
 
 -- (0,0,0), (2,0,0), query (1,0,0): 0
 abbrev pub p2 : Row
-p2 = tree (as_number 0 origin ∷ as_number 1 (point_from 0x40000000 0 0) ∷ []) (point_from 0x3f800000 0 0) (Number 0)
+p2 = tree (as_number 0 origin ∷ as_number 1 (point_from 0x40000000 0 0) ∷ []) (point_from 0x3f800000 0 0) (Ok (Some 0))
 
 -- the same two inserted in reverse, each keeping its number: 1
 abbrev pub p3 : Row
-p3 = tree (as_number 1 (point_from 0x40000000 0 0) ∷ as_number 0 origin ∷ []) (point_from 0x3f800000 0 0) (Number 1)
+p3 = tree (as_number 1 (point_from 0x40000000 0 0) ∷ as_number 0 origin ∷ []) (point_from 0x3f800000 0 0) (Ok (Some 1))
 
 -- (10,0,0), (1,0,0), (-1,0,0), query origin: 1
 abbrev pub p4 : Row
-p4 = tree (as_number 0 (point_from 0x41200000 0 0) ∷ as_number 1 (point_from 0x3f800000 0 0) ∷ as_number 2 (point_from 0xbf800000 0 0) ∷ []) origin (Number 1)
+p4 = tree (as_number 0 (point_from 0x41200000 0 0) ∷ as_number 1 (point_from 0x3f800000 0 0) ∷ as_number 2 (point_from 0xbf800000 0 0) ∷ []) origin (Ok (Some 1))
 
 -- (0,0,0), (0,1,0), query (0,1,0): 1
 abbrev pub p5 : Row
-p5 = tree (as_number 0 origin ∷ as_number 1 (point_from 0 0x3f800000 0) ∷ []) (point_from 0 0x3f800000 0) (Number 1)
+p5 = tree (as_number 0 origin ∷ as_number 1 (point_from 0 0x3f800000 0) ∷ []) (point_from 0 0x3f800000 0) (Ok (Some 1))
 
 -- (3e38,0,0), (1e38,0,0), query (-3e38,0,0): 0, both distances infinite
 abbrev pub p6a : Row
-p6a = tree (as_number 0 (point_from 0x7f61b1e6 0 0) ∷ as_number 1 (point_from 0x7e967699 0 0) ∷ []) (point_from 0xff61b1e6 0 0) (Number 0)
+p6a = tree (as_number 0 (point_from 0x7f61b1e6 0 0) ∷ as_number 1 (point_from 0x7e967699 0 0) ∷ []) (point_from 0xff61b1e6 0 0) (Ok (Some 0))
 
 abbrev pub p6b : Row
 p6b = far (as_number 0 (point_from 0x7f61b1e6 0 0) ∷ as_number 1 (point_from 0x7e967699 0 0) ∷ []) (point_from 0xff61b1e6 0 0)
 
 -- P2's tree, NaN query: 0
 abbrev pub p7 : Row
-p7 = tree (as_number 0 origin ∷ as_number 1 (point_from 0x40000000 0 0) ∷ []) (point_from 0x7fc00000 0 0) (Number 0)
+p7 = tree (as_number 0 origin ∷ as_number 1 (point_from 0x40000000 0 0) ∷ []) (point_from 0x7fc00000 0 0) (Ok (Some 0))
 
 -- (2,0,0) to (1,0,0)
 abbrev pub p8 : Row

@@ -3,10 +3,9 @@
 use Prim.Native.Nat.{ℕ}
 use mathlib.Core.Path.{◌≡◌, refl, sym, ap, ◌∙◌}
 use mathlib.Core.List.{List, [], ◌∷◌, ◌++◌, append_assoc, append-nil}
+use Rattle.std.specs.Prelude.{Option, Some, None}
 use Rattle.points.specs.declared.Point3.{Point3}
 use Rattle.text.specs.Machine.{reads}
-use Rattle.text.specs.declared.Place.{Place}
-use Rattle.text.specs.declared.Place.TheVariants as place
 use Rattle.text.specs.Words.{bytes}
 use Rattle.text.specs.Keys.{point_behind}
 use Rattle.settext.specs.declared.State.{State}
@@ -16,14 +15,14 @@ use Rattle.lookup.specs.declared.Lookup.{Lookup}
 use Rattle.loads.specs.Load.{Work}
 use Rattle.blocks.specs.Blocks.{form_error}
 use Rattle.answers.specs.Answers.{nearest_number, filtered_of, answer_block}
-use Rattle.queries.specs.declared.Phase.TheVariants.{Ready, Over}
+use Rattle.queries.specs.declared.runs.Phase.TheVariants.{Ready, Over}
 use Rattle.queries.specs.Program.{session, Turn, turn_as, step_turn, after_turn, line_turn, known_as, ended, printing, on_line}
 use Rattle.queries.proofs.Order.{InOrder, only_queries, in_order}
 
 -- lines, each of which asks a query
 pub data Ask : List (List ℕ) → List Point3 → Type 0 where
   none : Ask [] []
-  one : {l : List ℕ} {q : Point3} {ls : List (List ℕ)} {qs : List Point3} → point_behind (bytes "query=") l ≡ place.At q → Ask ls qs → Ask (l ∷ ls) (q ∷ qs)
+  one : {l : List ℕ} {q : Point3} {ls : List (List ℕ)} {qs : List Point3} → point_behind (bytes "query=") l ≡ Some q → Ask ls qs → Ask (l ∷ ls) (q ∷ qs)
 
 module _ (look : Lookup) (d : TextLists) (w : Work) where
   -- the block of a query at the set
@@ -50,12 +49,12 @@ module _ (look : Lookup) (d : TextLists) (w : Work) where
     by_place = ap (λ (a : After). after_turn (Ready s look) a w) (only_queries s l d here.0)
 
     -- a query prints its block, and the set stays
-    pub a_query : (q : Point3) → point_behind (bytes "query=") l ≡ place.At q → line_turn (session (Ready s look) d w) l ≡ turn_as (Ready (counted s) look) d w (block s q)
-    a_query q e = by_place ∙ ap (λ (p : Place). step_turn (Ready s look) (asked s p) d w) e ∙ ap (turn_as (Ready (counted s) look) d w) (alone s q)
+    pub a_query : (q : Point3) → point_behind (bytes "query=") l ≡ Some q → line_turn (session (Ready s look) d w) l ≡ turn_as (Ready (counted s) look) d w (block s q)
+    a_query q e = by_place ∙ ap (λ (p : Option Point3). step_turn (Ready s look) (asked s p) d w) e ∙ ap (turn_as (Ready (counted s) look) d w) (alone s q)
 
-    pub no_query : point_behind (bytes "query=") l ≡ place.Nowhere → line_turn (session (Ready s look) d w) l ≡ turn_as Over d w (form_error (line_number s))
+    pub no_query : point_behind (bytes "query=") l ≡ None → line_turn (session (Ready s look) d w) l ≡ turn_as Over d w (form_error (line_number s))
     unfolding bad_of
-    no_query e = by_place ∙ ap (λ (p : Place). step_turn (Ready s look) (asked s p) d w) e
+    no_query e = by_place ∙ ap (λ (p : Option Point3). step_turn (Ready s look) (asked s p) d w) e
 
   -- One block for each query, in their order
   pub each_block : {ls : List (List ℕ)} {qs : List Point3} (s : State) (p : List ℕ) → InOrder (Ready s look) → Ask ls qs

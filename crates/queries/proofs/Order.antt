@@ -8,12 +8,10 @@ use native.Mathlib.Omega.{arith}
 use lib.Dec.{T, eqb, ltb}
 use lib.ListN.{length, get_or, drop}
 use borrow.Author.Tests.{ltb-true, ltb-false, le-ltb, eqb-true, eqb-false}
-use Rattle.text.specs.declared.Num.{Num}
-use Rattle.text.specs.declared.Num.TheVariants.{Is, Bad}
+use Rattle.std.specs.Prelude.{Option, Some, None, Result, Ok, Err}
+use Rattle.points.specs.declared.Point3.{Point3}
 use Rattle.text.specs.Number.{begins, count_of, hex_of}
 use Rattle.text.specs.Values.{value_of}
-use Rattle.text.specs.declared.Place.{Place}
-use Rattle.text.specs.declared.Place.TheVariants as place
 use Rattle.text.specs.Words.{bytes}
 use Rattle.text.specs.Keys.{exactly_of, values_fit, num_behind, point_behind}
 use Rattle.settext.specs.declared.State.{State}
@@ -23,12 +21,11 @@ use Rattle.settext.specs.State.{start_state, line_number, line_count, counted, w
 use Rattle.settext.specs.Lines.{TextLists, gives, asked, when, after_as, pos_line, ir_line, delay_line, product, kind_of, keys, key_line, form_line, kind_line, m_line, r_line, n_line, rate_line, astep_line, rstep_line, delays_line, values_step, query_line, line_of}
 use Rattle.text.specs.Machine.{reads}
 use Rattle.lookup.specs.declared.Lookup.{Lookup}
-use Rattle.loads.specs.declared.Loaded.{Loaded}
-use Rattle.loads.specs.declared.Loaded.TheVariants as loaded
+use Rattle.refusals.specs.declared.Refusal.{Refusal}
 use Rattle.loads.specs.Load.{Work}
 use Rattle.answers.specs.Answers.{set_of}
-use Rattle.queries.specs.declared.Phase.{Phase}
-use Rattle.queries.specs.declared.Phase.TheVariants.{Reading, Ready, Over}
+use Rattle.queries.specs.declared.runs.Phase.{Phase}
+use Rattle.queries.specs.declared.runs.Phase.TheVariants.{Reading, Ready, Over}
 use Rattle.queries.specs.Program.{Session, Known, known_as, state_in, load_turn, step_turn, after_turn, line_turn, ended, on_line, begun}
 
 -- ---- a line of the set
@@ -63,9 +60,9 @@ if_good : (b : Bool) (s t : State) → line_number t ≤ line_count t → Placed
 if_good true s t h = went t h
 if_good false s t h = bad s
 
-if_given : (s : State) (put : ℕ → State) (x : Num) → ((v : ℕ) → line_number (put v) ≤ line_count (put v)) → Placed (gives s put x)
-if_given s put (Is v) h = went (put v) (h v)
-if_given s put Bad h = bad s
+if_given : (s : State) (put : ℕ → State) (x : Option ℕ) → ((v : ℕ) → line_number (put v) ≤ line_count (put v)) → Placed (gives s put x)
+if_given s put (Some v) h = went (put v) (h v)
+if_given s put None h = bad s
 
 -- a key comes before the end of the set
 small : (t : State) → t.lines < 9 → line_number t ≤ line_count t
@@ -148,9 +145,9 @@ one_more : (s : State) → line_count s ≤ s.lines → s.lines ≤ 184467440737
 unfolding line_number
 one_more s h g = omega arith
 
-by_load_lem : (s : State) (d : TextLists) (w : Work) (r : Loaded) → (line_count s ≤ s.lines) × (s.lines ≤ 18446744073709551615) → InOrder (load_turn s d w r).session.phase
-by_load_lem s d w (loaded.Ready look) h = h
-by_load_lem s d w (loaded.Refused reason place) h = tt
+by_load_lem : (s : State) (d : TextLists) (w : Work) (r : Result Lookup Refusal) → (line_count s ≤ s.lines) × (s.lines ≤ 18446744073709551615) → InOrder (load_turn s d w r).session.phase
+by_load_lem s d w (Ok look) h = h
+by_load_lem s d w (Err refusal) h = tt
 
 from_set : (s : State) (t : Step) (d : TextLists) (w : Work) → Placed t → InOrder (step_turn (Reading s) t d w).session.phase
 from_set s (Next t) d w h = h
@@ -164,11 +161,11 @@ from_end (Complete t) d w h = let l = set_of t d.positions (length d.responses) 
 from_end (Query t q) d w h = tt
 from_end (Malformed k) d w h = tt
 
-from_query : (s : State) (look : Lookup) (p : Place) (d : TextLists) (w : Work) → (line_count s ≤ s.lines) × (s.lines ≤ 18446744073709551615)
+from_query : (s : State) (look : Lookup) (p : Option Point3) (d : TextLists) (w : Work) → (line_count s ≤ s.lines) × (s.lines ≤ 18446744073709551615)
     → InOrder (step_turn (Ready s look) (asked s p) d w).session.phase
 unfolding bad_of line_count
-from_query s look (place.At p) d w h = let g = one_more s h.0 h.1 in (unfold line_count in g, few_lines s)
-from_query s look place.Nowhere d w h = tt
+from_query s look (Some p) d w h = let g = one_more s h.0 h.1 in (unfold line_count in g, few_lines s)
+from_query s look None d w h = tt
 
 starts : start_state.lines < line_count start_state
 unfolding line_count

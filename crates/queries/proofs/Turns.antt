@@ -1,12 +1,13 @@
 -- What a turn comes to, by what the code was told of the chunk and of the line; and what stands at the front of a list that was written.
 -- Assumes nothing.
-use Prim.Native.Nat.{ℕ, ◌+◌, ◌*◌, ◌≤◌, ◌<◌}
+use Prim.Native.Nat.{ℕ, ◌≤◌, ◌<◌}
 use mathlib.Core.Path.{◌≡◌, refl, sym, ap, subst, ◌∙◌}
 use mathlib.Core.Bool.{true, false}
 use mathlib.Core.List.{List, [], ◌++◌}
 use native.Mathlib.Omega.{arith}
 use lib.ListN.{length, take, drop, drop_of_length-le, length-append}
 use lib.Ieee.{Float}
+use Rattle.std.specs.Prelude.{Result, Ok, Err}
 use Rattle.lists.specs.Over.{over}
 use Rattle.lists.proofs.Laws.{over_nil, take_over}
 use Rattle.text.specs.declared.Cut.{Cut}
@@ -21,16 +22,18 @@ use Rattle.settext.specs.Lines.{TextLists, After, line_of}
 use Rattle.settext_laws.proofs.Reached.{line}
 use Rattle.points.specs.declared.Point3.{Point3}
 use Rattle.lookup.specs.declared.Lookup.{Lookup}
-use Rattle.loads.specs.declared.Loaded.{Loaded}
-use Rattle.loads.specs.declared.Loaded.TheVariants as loaded
+use Rattle.refusals.specs.declared.Refusal.{Refusal}
+use Rattle.refusals.specs.Refusals.{number_of, place_of}
 use Rattle.loads.specs.Load.{Work, Load, load_as}
 use Rattle.blocks.specs.Blocks.{refused_text, form_error}
 use Rattle.answers.specs.Answers.{set_of}
-use Rattle.queries.specs.declared.Phase.{Phase}
-use Rattle.queries.specs.declared.Phase.TheVariants.{Ready, Over}
-use Rattle.queries.specs.Program.{Session, session, Turn, turn_as, state_in, is_over, phase_after, load_turn, by_load, block_in, step_turn, after_turn, line_turn, Ears, ears_of, step_ears, after_ears, line_ears}
+use Rattle.queries.specs.declared.Ears.{Ears}
+use Rattle.queries.specs.declared.Store.{Store}
+use Rattle.queries.specs.declared.runs.Phase.{Phase}
+use Rattle.queries.specs.declared.runs.Phase.TheVariants.{Reading, Ready, Over}
+use Rattle.queries.specs.Program.{Session, session, Turn, turn_as, state_in, is_over, phase_after, load_turn, by_load, block_in, step_turn, after_turn, line_turn, ears_of, step_ears, after_ears, line_ears}
 use Rattle.queries.specs.Sound.{SoundPhase}
-use Rattle.queries.specs.Machine.{between_bytes, advance_as, line_advance, part_advance, advance_of, part_ears, advance_ears, advance_buf, Front, TurnSays}
+use Rattle.queries.specs.Machine.{between_bytes, advance_as, line_advance, part_advance, advance_of, part_ears, advance_ears, advance_buf, Front, TurnSays, AskSays}
 
 -- once over, nothing is read and nothing printed
 pub silent : (room : ℕ) (a : At Session) (s : List ℕ) → is_over a.known.phase ≡ true → advance_of room a s ≡ advance_as a [] []
@@ -91,9 +94,6 @@ module _ (buf chunk : List ℕ) (from : ℕ) (r : Cut) where
   pub found_line : (next n : ℕ) → r ≡ Line next n → CutWithin r from (length buf) (length chunk) → (n ≤ length buf) × (from < next) × (next ≤ length chunk)
   found_line next n e h = subst (λ (r : Cut). CutWithin r from (length buf) (length chunk)) e h
 
-  pub found_more : (n : ℕ) → r ≡ More n → CutWithin r from (length buf) (length chunk) → n ≤ length buf
-  found_more n e h = subst (λ (r : Cut). CutWithin r from (length buf) (length chunk)) e h
-
 -- what was written at the front
 module _ {xs d d' : List ℕ} {n : ℕ} (p : Front xs d d' n) where
   pub front : take n d' ≡ xs
@@ -105,6 +105,12 @@ module _ {xs d d' : List ℕ} {n : ℕ} (p : Front xs d d' n) where
 
 pub nothing : (d : List ℕ) → Front [] d d 0
 nothing d = record { count = refl; same = sym (over_nil d) }
+
+-- before the load, and once over, a query has no block
+pub unasked : (f : Phase) (s : State) (q : Point3) (m : Store) → ((t : State) (look : Lookup) → f ≡ Ready t look → ⊥) → AskSays f s q m m 0
+unasked (Reading t) s q m h = record { printed = nothing m.out; ears = refl; given = refl; work = refl }
+unasked (Ready t look) s q m h = absurd (h t look refl)
+unasked Over s q m h = record { printed = nothing m.out; ears = refl; given = refl; work = refl }
 
 pub put : {xs d d' : List ℕ} {n : ℕ} → n ≡ length xs → d' ≡ over xs d → Front xs d d' n
 put e f = record { count = e; same = f }
@@ -126,15 +132,15 @@ pub says : {x t : Turn} {d d' : List ℕ} {n : ℕ} → x ≡ t → Front x.prin
 says {x} {d = d} {d' = d'} {n = n} e p = subst (λ (t : Turn). TurnSays t x.session d d' n) e (record { session = refl; printed = p })
 
 -- a load, by what it answered
-module _ (s : State) (d : TextLists) (w' : Work) (a : Loaded) (l : Load) (told : load_as a w' ≡ l) where
+module _ (s : State) (d : TextLists) (w' : Work) (a : Result Lookup Refusal) (l : Load) (told : load_as a w' ≡ l) where
   by_answer : load_turn s d w' a ≡ by_load s d l
   by_answer = ap (by_load s d) told
 
-  pub load_ready : (look : Lookup) → a ≡ loaded.Ready look → turn_as (Ready s look) d w' [] ≡ by_load s d l
+  pub load_ready : (look : Lookup) → a ≡ Ok look → turn_as (Ready s look) d w' [] ≡ by_load s d l
   load_ready look e = ap (load_turn s d w') (sym e) ∙ by_answer
 
-  pub load_refused : (reason place : ℕ) → a ≡ loaded.Refused reason place → turn_as Over d w' (refused_text reason place) ≡ by_load s d l
-  load_refused reason place e = ap (load_turn s d w') (sym e) ∙ by_answer
+  pub load_refused : (refusal : Refusal) → a ≡ Err refusal → turn_as Over d w' (refused_text (number_of refusal) (place_of refusal)) ≡ by_load s d l
+  load_refused refusal e = ap (load_turn s d w') (sym e) ∙ by_answer
 
 -- a line, by what it was
 module _ (f : Phase) (d : TextLists) (w : Work) (t : Step) where
@@ -166,20 +172,3 @@ module _ (f : Phase) (d : TextLists) (l : List ℕ) (a : After) (s : State) (tol
   pub line_ears_of : (w : Work) (e : Ears) → step_ears f a.step a.lists w e ≡ line_ears (session f d w) l e
   unfolding line_ears
   line_ears_of w e = ap (λ (a : After). after_ears f a w e) by_line
-
--- ---- what a call asks of the lengths, by the limits
-
-pub of_kept : {k n m : ℕ} → k ≤ n → m ≡ n → k ≤ m
-of_kept h e = omega arith
-
-pub used_in : {u n : ℕ} → u ≤ 40000 → n ≡ 40000 → u ≤ n
-used_in h e = omega arith
-
-pub points_in : {m p : ℕ} → m ≤ 256 → 768 ≤ p → 3 * m ≤ p
-points_in h r = omega arith
-
-pub refusal_in : {o : ℕ} → 73848 ≤ o → 70 ≤ o
-refusal_in r = omega arith
-
-pub block_in_lem : {n o : ℕ} → n ≤ 4096 → 73848 ≤ o → 18 * n + 120 ≤ o
-block_in_lem h r = omega arith

@@ -14,11 +14,12 @@ use Rattle.settext.specs.Lines.{TextLists, After}
 use Rattle.settext_laws.proofs.Long.{long_lines, end_of_lem}
 use Rattle.settext_laws.proofs.Reached.{begins_so}
 use Rattle.loads.specs.Load.{Work}
-use Rattle.queries.specs.declared.Run.{Run}
+use Rattle.queries.specs.declared.runs.Run.{Run}
 use Rattle.queries.specs.declared.Told.{Told}
-use Rattle.queries.specs.declared.Phase.{Phase}
-use Rattle.queries.specs.declared.Phase.TheVariants.{Reading, Ready, Over}
-use Rattle.queries.specs.Program.{Session, Known, known_as, Ears, state_in, is_over, after_turn, line_turn, ended, printing, on_line, end_text, closing, closed, begun, output_from, no_lists, no_work, output_of}
+use Rattle.queries.specs.declared.Memory.{Memory}
+use Rattle.queries.specs.declared.runs.Phase.{Phase}
+use Rattle.queries.specs.declared.runs.Phase.TheVariants.{Reading, Ready, Over}
+use Rattle.queries.specs.Program.{Session, Known, known_as, state_in, is_over, after_turn, line_turn, ended, printing, on_line, end_text, closing, closed, begun, output_from, no_lists, no_work, output_of}
 use Rattle.queries.specs.Sound.{SoundPhase}
 use Rattle.queries.specs.Machine.{between_bytes, Advance, part_advance, advance_of, run_place, AdvanceSays, FinishSays, joined, Makes, done, next, goes}
 use Rattle.queries.proofs.Keeps.{turn_sound}
@@ -140,12 +141,12 @@ program m = whole 39999 (lit≤ tt) no_lists no_work m
 -- ---- in the code's terms
 
 -- what `advance` promises is a turn
-pub told : {chunk : List ℕ} {from : ℕ} {buf buf' : List ℕ} {t : Run} {d d' : TextLists} {w w' : Work} {e e' : Ears} {out out' : List ℕ} {r : Told} {cs : List (List ℕ)} {p : List ℕ} {z : At Session}
-    → AdvanceSays chunk from buf buf' t d d' w w' e e' out out' r → Makes 40000 (run_place r.run d' w' buf') (drop r.next chunk ∷ cs) p z
-    → Makes 40000 (run_place t d w buf) (drop from chunk ∷ cs) (take r.count out' ++ p) z
+pub told : {chunk : List ℕ} {from : ℕ} {m m' : Memory} {t : Run} {r : Told} {cs : List (List ℕ)} {p : List ℕ} {z : At Session}
+    → AdvanceSays chunk from m m' t r → Makes 40000 (run_place r.run m') (drop r.next chunk ∷ cs) p z
+    → Makes 40000 (run_place t m) (drop from chunk ∷ cs) (take r.count m'.store.out ++ p) z
 told says m = rw (front says.printed) (goes (rw (says.place, says.left) at m))
 
 -- what the turns over a text said to print, and what `finish` says then, is the output of the text
-pub printed : {cs : List (List ℕ)} {p out out' : List ℕ} {d : TextLists} {w : Work} {r : ℕ} (t : Run) (buf : List ℕ)
-    → Makes 40000 (between_bytes (begun no_lists no_work) []) cs p (run_place t d w buf) → FinishSays buf t out out' r → p ++ take r out' ≡ output_of (joined cs)
-printed {p = p} t buf m says = ap (λ (l : List ℕ). p ++ l) (front says) ∙ program m
+pub printed : {cs : List (List ℕ)} {p out out' : List ℕ} {r : ℕ} (t : Run) (m : Memory)
+    → Makes 40000 (between_bytes (begun no_lists no_work) []) cs p (run_place t m) → FinishSays m.buf t out out' r → p ++ take r out' ≡ output_of (joined cs)
+printed {p = p} t m made says = ap (λ (l : List ℕ). p ++ l) (front says) ∙ program made

@@ -7,19 +7,22 @@ use Rattle.points.specs.declared.Point3.{Point3}
 use Rattle.settext.specs.declared.State.{State}
 use Rattle.settext.specs.declared.Step.{Step}
 use Rattle.settext.specs.State.{start_state}
-use Rattle.settext.specs.Lines.{TextLists}
+use Rattle.lookup.specs.declared.Lookup.{Lookup}
 use Rattle.loads.specs.Load.{Work}
-use Rattle.answers.specs.Answers.{set_of}
-use Rattle.queries.specs.declared.Phase.{Phase}
-use Rattle.queries.specs.declared.Phase.TheVariants.{Reading}
-use Rattle.queries.specs.declared.Run.{Run}
+use Rattle.answers.specs.Answers.{set_of, filtered_of, answer_block}
+use Rattle.queries.specs.declared.runs.Phase.{Phase}
+use Rattle.queries.specs.declared.runs.Phase.TheVariants.{Reading}
+use Rattle.queries.specs.declared.runs.Run.{Run}
 use Rattle.queries.specs.declared.Turned.{Turned}
 use Rattle.queries.specs.declared.Told.{Told}
-use Rattle.queries.specs.Program.{Session, session, Turn, is_over, block_in, by_load, step_turn, line_turn, Ears, ears_in, step_ears, line_ears, closing}
-use Rattle.queries.specs.Sound.{Sound}
+use Rattle.queries.specs.declared.Ears.{Ears}
+use Rattle.queries.specs.declared.Store.{Store}
+use Rattle.queries.specs.declared.Memory.{Memory}
+use Rattle.queries.specs.Program.{Session, text_in, work_in, session_in, Turn, is_over, block_in, by_load, step_turn, line_turn, ears_of, ears_in, step_ears, line_ears, closing}
+use Rattle.queries.specs.Sound.{start_sound}
 
 abbrev pub start_run : Run
-start_run = record { phase = Reading start_state; used = 0 }
+start_run = record { phase = Reading start_state; used = 0; sound = start_sound }
 
 -- between two bytes: the session, and what is kept of the line begun
 abbrev pub between_bytes : Session → List ℕ → At Session
@@ -57,9 +60,9 @@ advance_ears room a s e = cond (is_over a.known.phase) e (part_ears a.known (cut
 unfoldable pub advance_buf : ℕ → At Session → List ℕ → List ℕ → List ℕ
 advance_buf room a s buf = cond (is_over a.known.phase) buf (over (part_bytes (cut (take room) a.have s)) buf)
 
--- the place that a run stands for, by the lent lists
-abbrev pub run_place : Run → TextLists → Work → List ℕ → At Session
-run_place t d w buf = between_bytes (session t.phase d w) (take t.used buf)
+-- the place that a run stands for, by the program's lists
+abbrev pub run_place : Run → Memory → At Session
+run_place t m = between_bytes (session_in t.phase m.store) (take t.used m.buf)
 
 -- ---- what the calls promise
 
@@ -73,28 +76,34 @@ pub record TurnSays (t : Turn) (k : Session) (out out' : List ℕ) (n : ℕ) : T
   pub session : k ≡ t.session
   pub printed : Front t.printed out out' n
 
-pub record AskSays (f : Phase) (s : State) (responses delays : List Float) (w : Work) (q : Point3) (e e' : Ears) (out out' : List ℕ) (r : ℕ) : Type 0 where
-  pub printed : Front (block_in f s responses delays w q) out out' r
-  pub ears : e' ≡ ears_in f s responses delays w q e
+pub record AnswerSays (s : State) (look : Lookup) (w : Work) (responses delays : List Float) (q : Point3) (e e' : Ears) (out out' : List ℕ) (r : ℕ) : Type 0 where
+  pub printed : Front (answer_block s look w responses delays q) out out' r
+  pub ears : e' ≡ (let f = filtered_of s look w responses delays q in ears_of (over f.left e.left) (over f.right e.right))
 
-abbrev pub LoadSays : State → List Float → List Float → Work → Work → List ℕ → List ℕ → Turned → Type 0
-LoadSays s positions responses w w' out out' r = (d : TextLists) → TurnSays (by_load s d (set_of s positions (length responses) w)) (session r.phase d w') out out' r.count
+pub record AskSays (f : Phase) (s : State) (q : Point3) (m m' : Store) (r : ℕ) : Type 0 where
+  pub printed : Front (block_in f s m.given.responses m.given.delays (work_in m.work) q) m.out m'.out r
+  pub ears : m'.ears ≡ ears_in f s m.given.responses m.given.delays (work_in m.work) q m.ears
+  pub given : m'.given ≡ m.given
+  pub work : m'.work ≡ m.work
 
-pub record StepSays (f : Phase) (t : Step) (d : TextLists) (w w' : Work) (e e' : Ears) (out out' : List ℕ) (r : Turned) : Type 0 where
-  pub turn : TurnSays (step_turn f t d w) (session r.phase d w') out out' r.count
-  pub ears : e' ≡ step_ears f t d w e
+pub record LoadSays (s : State) (m m' : Store) (r : Turned) : Type 0 where
+  pub turn : TurnSays (by_load s (text_in m.given) (set_of s m.given.positions (length m.given.responses) (work_in m.work))) (session_in r.phase m') m.out m'.out r.count
+  pub ears : m'.ears ≡ m.ears
 
-pub record LineSays (f : Phase) (l : List ℕ) (d d' : TextLists) (w w' : Work) (e e' : Ears) (out out' : List ℕ) (r : Turned) : Type 0 where
-  pub turn : TurnSays (line_turn (session f d w) l) (session r.phase d' w') out out' r.count
-  pub ears : e' ≡ line_ears (session f d w) l e
+pub record StepSays (f : Phase) (t : Step) (m m' : Store) (r : Turned) : Type 0 where
+  pub turn : TurnSays (step_turn f t (text_in m.given) (work_in m.work)) (session_in r.phase m') m.out m'.out r.count
+  pub ears : m'.ears ≡ step_ears f t (text_in m.given) (work_in m.work) m.ears
 
-pub record AdvanceSays (chunk : List ℕ) (from : ℕ) (buf buf' : List ℕ) (t : Run) (d d' : TextLists) (w w' : Work) (e e' : Ears) (out out' : List ℕ) (r : Told) : Type 0 where
-  pub place : run_place r.run d' w' buf' ≡ (advance_of 40000 (run_place t d w buf) (drop from chunk)).place
-  pub left : drop r.next chunk ≡ (advance_of 40000 (run_place t d w buf) (drop from chunk)).left
-  pub printed : Front (advance_of 40000 (run_place t d w buf) (drop from chunk)).printed out out' r.count
-  pub ears : e' ≡ advance_ears 40000 (run_place t d w buf) (drop from chunk) e
-  pub buffer : buf' ≡ advance_buf 40000 (run_place t d w buf) (drop from chunk) buf
-  pub sound : Sound r.run
+pub record LineSays (f : Phase) (l : List ℕ) (m m' : Store) (r : Turned) : Type 0 where
+  pub turn : TurnSays (line_turn (session_in f m) l) (session_in r.phase m') m.out m'.out r.count
+  pub ears : m'.ears ≡ line_ears (session_in f m) l m.ears
+
+pub record AdvanceSays (chunk : List ℕ) (from : ℕ) (m m' : Memory) (t : Run) (r : Told) : Type 0 where
+  pub place : run_place r.run m' ≡ (advance_of 40000 (run_place t m) (drop from chunk)).place
+  pub left : drop r.next chunk ≡ (advance_of 40000 (run_place t m) (drop from chunk)).left
+  pub printed : Front (advance_of 40000 (run_place t m) (drop from chunk)).printed m.store.out m'.store.out r.count
+  pub ears : m'.store.ears ≡ advance_ears 40000 (run_place t m) (drop from chunk) m.store.ears
+  pub buffer : m'.buf ≡ advance_buf 40000 (run_place t m) (drop from chunk) m.buf
   pub next : r.next ≤ length chunk
   pub moves : from < length chunk → from < r.next
 

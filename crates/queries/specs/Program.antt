@@ -1,6 +1,6 @@
 -- The query program, from document 01's "The query program": what each line of its input makes it print, and what it prints of a whole text.
 -- Definitions only.
-use Rattle.std.specs.Prelude.{ℕ, Bool, true, false, List, [], ◌++◌, length, replicate, Float}
+use Rattle.std.specs.Prelude.{ℕ, Bool, true, false, List, [], ◌++◌, length, replicate, Float, Result, Ok, Err}
 use Rattle.floats.specs.Floats.{zero32}
 use Rattle.lists.specs.Over.{over}
 use Rattle.points.specs.declared.Point3.{Point3}
@@ -8,17 +8,20 @@ use Rattle.text.specs.Machine.{split, reads}
 use Rattle.settext.specs.declared.State.{State}
 use Rattle.settext.specs.declared.Step.{Step}
 use Rattle.settext.specs.declared.Step.TheVariants.{Next, Complete, Query, Malformed}
-use Rattle.settext.specs.declared.End.{End}
-use Rattle.settext.specs.declared.End.TheVariants.{Fine, Cut}
 use Rattle.settext.specs.State.{start_state}
 use Rattle.settext.specs.Lines.{TextLists, text_lists, After, line_of, end_of}
-use Rattle.loads.specs.declared.Loaded.{Loaded}
-use Rattle.loads.specs.declared.Loaded.TheVariants as loaded
+use Rattle.refusals.specs.declared.Refusal.{Refusal}
+use Rattle.refusals.specs.Refusals.{number_of, place_of}
+use Rattle.lookup.specs.declared.Lookup.{Lookup}
 use Rattle.loads.specs.Load.{Work, Load, work_of}
 use Rattle.blocks.specs.Blocks.{refused_text, form_error}
 use Rattle.answers.specs.Answers.{set_of, filtered_of, answer_block}
-use Rattle.queries.specs.declared.Phase.{Phase}
-use Rattle.queries.specs.declared.Phase.TheVariants.{Reading, Ready, Over}
+use Rattle.queries.specs.declared.SetLists.{SetLists}
+use Rattle.queries.specs.declared.WorkLists.{WorkLists}
+use Rattle.queries.specs.declared.Ears.{Ears}
+use Rattle.queries.specs.declared.Store.{Store}
+use Rattle.queries.specs.declared.runs.Phase.{Phase}
+use Rattle.queries.specs.declared.runs.Phase.TheVariants.{Reading, Ready, Over}
 
 -- ---- between two lines
 
@@ -30,6 +33,16 @@ pub record Session : Type 0 where
 
 abbrev pub session : Phase → TextLists → Work → Session
 session f d w = record { phase = f; lists = d; work = w }
+
+-- what the program's lists hold
+abbrev pub text_in : SetLists → TextLists
+text_in d = text_lists d.positions d.responses d.delays
+
+abbrev pub work_in : WorkLists → Work
+work_in w = work_of w.left w.right w.neighbours w.cartesian
+
+abbrev pub session_in : Phase → Store → Session
+session_in f m = session f (text_in m.given) (work_in m.work)
 
 -- what a line makes of it, and what is printed then
 pub record Turn : Type 0 where
@@ -58,9 +71,9 @@ phase_after (Ready t look) s = Ready s look
 phase_after Over s = Over
 
 -- after the last line of the set: "a refused load prints one refused block and ends"
-abbrev pub load_turn : State → TextLists → Work → Loaded → Turn
-load_turn s d w (loaded.Ready look) = turn_as (Ready s look) d w []
-load_turn s d w (loaded.Refused reason place) = turn_as Over d w (refused_text reason place)
+abbrev pub load_turn : State → TextLists → Work → Result Lookup Refusal → Turn
+load_turn s d w (Ok look) = turn_as (Ready s look) d w []
+load_turn s d w (Err refusal) = turn_as Over d w (refused_text (number_of refusal) (place_of refusal))
 
 abbrev pub by_load : State → TextLists → Load → Turn
 by_load s d l = load_turn s d l.work l.answer
@@ -85,10 +98,6 @@ unfoldable pub line_turn : Session → List ℕ → Turn
 line_turn k l = after_turn k.phase (line_of (state_in k.phase) l k.lists) k.work
 
 -- ---- the two lists that a query's responses are put in
-
-pub record Ears : Type 0 where
-  pub left : List Float
-  pub right : List Float
 
 abbrev pub ears_of : List Float → List Float → Ears
 ears_of l r = record { left = l; right = r }
@@ -136,9 +145,9 @@ unfoldable pub on_line : Known → List ℕ → Known
 on_line k l = printing k.printed (line_turn k.session l)
 
 -- at the end of the text, with the bytes after its last newline
-abbrev pub end_text : End → List ℕ
-end_text Fine = []
-end_text (Cut k) = form_error k
+abbrev pub end_text : Result Unit ℕ → List ℕ
+end_text (Ok u) = []
+end_text (Err k) = form_error k
 
 abbrev pub closing : Phase → List ℕ → List ℕ
 closing (Reading s) rest = end_text (end_of s rest)

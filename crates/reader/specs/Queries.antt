@@ -1,16 +1,16 @@
 -- The three filters of a set: what each answers and what both outputs then hold, refusals included. Definitions only.
-use Rattle.std.specs.Prelude.{ℕ, List, length, Float}
+use Rattle.std.specs.Prelude.{ℕ, List, length, Float, ⊤, Result, Ok, Err}
 use Rattle.points.specs.declared.Point3.{Point3}
+use Rattle.refusals.specs.declared.Refusal.{Refusal}
+use Rattle.refusals.specs.Refusals.{number_of, place_of}
 use Rattle.limits.specs.declared.Sizes.{Sizes}
 use Rattle.limits.specs.declared.Lengths.{Lengths}
-use Rattle.limits.specs.declared.Verdict.{Verdict}
-use Rattle.limits.specs.declared.Verdict.TheVariants as verdict
-use Rattle.limits.specs.Allowed.{plain_fits, blend_fits, responses_fit}
-use Rattle.limits.specs.Refusals.{verdict_of, reason_of, place_of, filter_lines, rated_lines}
+use Rattle.limits.specs.Allowed.{tree_lengths, plain_fits, blend_fits, responses_fit}
+use Rattle.limits.specs.Refusals.{verdict_of, filter_lines, rated_lines}
 use Rattle.lookup.specs.declared.Lookup.{Lookup}
 use Rattle.lookup.specs.declared.Located.{Located}
 use Rattle.lookup.specs.declared.Located.TheVariants.{At, Refused}
-use Rattle.lookup.specs.Lookup.{locate_of, tree_lengths}
+use Rattle.lookup.specs.Lookup.{locate_of}
 use Rattle.interpolate.specs.Blend.{FilterAnswer, refused_of, extract_of, interpolate_of}
 
 -- ---- the lists that are lent
@@ -20,19 +20,19 @@ lengths_of cart left right resp near = record { tree = tree_lengths cart left ri
 
 -- ---- refusals: "sets every left and right sample to +0 and answers no delays"
 
--- the refusal of a verdict, over outputs of these two lengths
-abbrev pub refused_by : Verdict → ℕ → ℕ → FilterAnswer
-refused_by v ll rl = refused_of (reason_of v) (place_of v) ll rl
+-- a refusal, over outputs of these two lengths
+abbrev pub refused_by : Refusal → ℕ → ℕ → FilterAnswer
+refused_by refusal ll rl = refused_of (number_of refusal) (place_of refusal) ll rl
 
 -- nothing is refused beforehand
-unfoldable pub allowed : Verdict → ℕ → ℕ → FilterAnswer → FilterAnswer
-allowed verdict.Fine ll rl f = f
-allowed (verdict.Refused number place) ll rl f = refused_of number place ll rl
+unfoldable pub allowed : Result ⊤ Refusal → ℕ → ℕ → FilterAnswer → FilterAnswer
+allowed (Ok fine) ll rl f = f
+allowed (Err refusal) ll rl f = refused_by refusal ll rl
 
 -- nothing is refused on the way to the nearest measurement
 unfoldable pub nearest_or : Located → ℕ → ℕ → (ℕ → FilterAnswer) → FilterAnswer
 nearest_or (At k) ll rl f = f k
-nearest_or (Refused number place) ll rl f = refused_of number place ll rl
+nearest_or (Refused refusal) ll rl f = refused_by refusal ll rl
 
 -- ---- the calls, over outputs of these two lengths
 

@@ -1,27 +1,22 @@
 -- Form 1 of a set's text, from document 01's "The query program": the keys in their order with a rule for each, then the lines of the set,
 -- then queries. Which line is wanted follows from how many were read. Definitions only.
-use Rattle.std.specs.Prelude.{ℕ, ◌-◌, ◌*◌, Bool, cond, ◌||◌, not, List, [], ◌∷◌, eqb, leb, ltb, length, get_or, drop, Float}
-use Rattle.text.specs.declared.Num.{Num}
-use Rattle.text.specs.declared.Num.TheVariants.{Is, Bad}
+use Rattle.std.specs.Prelude.{ℕ, ◌-◌, ◌*◌, Bool, cond, ◌||◌, not, List, [], ◌∷◌, eqb, leb, ltb, length, get_or, drop, Float, Option, Some, None, Result, Ok, Err}
+use Rattle.points.specs.declared.Point3.{Point3}
 use Rattle.text.specs.Number.{begins, count_of, hex_of}
 use Rattle.text.specs.Values.{value_of, stored}
-use Rattle.text.specs.declared.Place.{Place}
-use Rattle.text.specs.declared.Place.TheVariants.{At, Nowhere}
 use Rattle.text.specs.Words.{bytes}
 use Rattle.text.specs.Keys.{exactly_of, num_behind, values_fit, point_behind}
 use Rattle.settext.specs.declared.State.{State}
 use Rattle.settext.specs.declared.Step.{Step}
 use Rattle.settext.specs.declared.Step.TheVariants.{Query}
-use Rattle.settext.specs.declared.End.{End}
-use Rattle.settext.specs.declared.End.TheVariants.{Fine, Cut}
 use Rattle.settext.specs.State.{key_count, line_number, line_count, counted, went_of, bad_of, set_kind, set_m, set_r, set_n, set_delays, set_rate, set_astep, set_rstep}
 
 -- ---- the keys
 
 -- what a key's line says goes into the state, or it is malformed
-abbrev pub gives : State → (ℕ → State) → Num → Step
-gives s put (Is v) = went_of (put v)
-gives s put Bad = bad_of s
+abbrev pub gives : State → (ℕ → State) → Option ℕ → Step
+gives s put (Some v) = went_of (put v)
+gives s put None = bad_of s
 
 abbrev pub when : Bool → State → State → Step
 when good s t = cond good (went_of t) (bad_of s)
@@ -31,9 +26,9 @@ unfoldable pub kind_of : List ℕ → ℕ
 kind_of word = cond (exactly_of (bytes "cartesian") word) 0 (cond (exactly_of (bytes "spherical") word) 1 255)
 
 -- m·r·n is at most 4096
-unfoldable pub product : State → Num → Num
-product s (Is n) = cond (leb (s.m * s.r * n) 4096) (Is n) Bad
-product s Bad = Bad
+unfoldable pub product : State → Option ℕ → Option ℕ
+product s (Some n) = cond (leb (s.m * s.r * n) 4096) (Some n) None
+product s None = None
 
 unfoldable pub form_line : State → List ℕ → Step
 form_line s l = when (exactly_of (bytes "form=1") l) s s
@@ -91,9 +86,9 @@ values_step s key l n at d = when (values_fit key n at l d) s s
 unfoldable pub values_list : List ℕ → List ℕ → ℕ → ℕ → List Float → List Float
 values_list key l n at d = stored (values_fit key n at l d) (drop (length key) l) n at d
 
-abbrev pub asked : State → Place → Step
-asked s (At p) = Query (counted s) p
-asked s Nowhere = bad_of s
+abbrev pub asked : State → Option Point3 → Step
+asked s (Some p) = Query (counted s) p
+asked s None = bad_of s
 
 unfoldable pub query_line : State → List ℕ → Step
 query_line s l = asked s (point_behind (bytes "query=") l)
@@ -131,5 +126,5 @@ line_of s l d =
 -- ---- the end
 
 -- the text may end after the set's last line or a query, with nothing after the last newline
-unfoldable pub end_of : State → List ℕ → End
-end_of s rest = cond (ltb s.lines (line_count s) || not (eqb (length rest) 0)) (Cut (line_number s)) Fine
+unfoldable pub end_of : State → List ℕ → Result Unit ℕ
+end_of s rest = cond (ltb s.lines (line_count s) || not (eqb (length rest) 0)) (Err (line_number s)) (Ok tt)

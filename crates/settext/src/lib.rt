@@ -4,14 +4,18 @@
 // `end_of`. Which line is wanted follows from how many were read, since each of them was well formed; the next one's number is K of a form error.
 #![tactic(auto)]
 
-ghost use Rattle.std.specs.Prelude.{◌≡◌};
+ghost use Rattle.std.specs.Prelude.{◌≡◌, MatchOption, option_map};
+ghost use Rattle.text.specs.Number.{count_of, hex_of};
+ghost use Rattle.text.specs.Values.{value_of};
+ghost use Rattle.text.specs.Keys.{num_behind};
+ghost use Rattle.settext.specs.declared.State.{State};
 ghost use Rattle.settext.specs.State.{start_state, line_number, line_count, went_of, bad_of};
-ghost use Rattle.settext.specs.Lines.{kind_of, product, form_line, kind_line, m_line, r_line, n_line, rate_line, astep_line, rstep_line, delays_line, key_line, values_step, values_list, query_line, text_lists, after_as, line_of, end_of};
+ghost use Rattle.settext.specs.Lines.{kind_of, product, form_line, key_line, values_step, values_list, query_line, text_lists, after_as, line_of, end_of};
 
 use points::Point3;
-use text::{Num, Place};
 
 // Between two lines: how many were read, all well formed, and what the keys said. The counts are small enough that no product of them wraps.
+// Functions of a state and a line, and no methods: each stands as the definition of its name takes them.
 #[derive(Clone, Copy)]
 pub struct State {
     pub lines: usize,
@@ -34,13 +38,7 @@ pub enum Step {
     Malformed(usize),
 }
 
-// At the end of the text: all is there, or the line of this number is malformed or missing.
-#[derive(Clone, Copy)]
-pub enum End {
-    Fine,
-    Cut(usize),
-}
-
+// No derived Default: before its line is read the kind is 255, which is none.
 pub fn begin() -> State
     ensures { result ≡ start_state }
 {
@@ -57,14 +55,11 @@ pub fn begin() -> State
     }
 }
 
+#[tactic(auto, unfolding(crate::specs::State::line_number))]
 fn number(s: State) -> usize
     ensures { result ≡ line_number s }
 {
-    if s.lines < 0xffff_ffff_ffff_ffff {
-        s.lines + 1
-    } else {
-        s.lines
-    }
+    s.lines.saturating_add(1)
 }
 
 fn line_count(s: State) -> usize
@@ -77,10 +72,9 @@ fn line_count(s: State) -> usize
 fn went(s: State) -> Step
     ensures { result ≡ went_of s }
 {
-    let k = number(s);
-    let mut t = s;
-    t.lines = k;
-    if k == line_count(s) {
+    let lines = number(s);
+    let t = State { lines, ..s };
+    if lines == line_count(s) {
         Step::Complete(t)
     } else {
         Step::Next(t)
@@ -93,6 +87,7 @@ fn malformed(s: State) -> Step
     Step::Malformed(number(s))
 }
 
+// A kind stays a number, with all unknown values: load says no to each but two, and any other word is 255.
 fn kind_of(word: &[u8]) -> u32
     ensures { result ≡ kind_of word.now }
 {
@@ -114,128 +109,71 @@ fn form_line(s: State, line: &[u8]) -> Step
     malformed(s)
 }
 
-fn kind_line(s: State, line: &[u8]) -> Step
-    ensures { result ≡ kind_line s line.now }
+// A count behind a key, in the 16 bits that the state keeps.
+fn count(key: &[u8], line: &[u8], limit: u16) -> Option<u16>
+    ensures { result ≡ num_behind key.now (count_of limit) line.now }
 {
-    if text::begins_with(b"kind=", line) {
-        let mut t = s;
-        t.kind = kind_of(&line[5..]);
-        return went(t);
+    let n = text::count_behind(key, line, limit as u32)?;
+    Some(n as u16)
+}
+
+fn value(key: &[u8], line: &[u8]) -> Option<f32>
+    ensures { result ≡ option_map value_of (num_behind key.now hex_of line.now) }
+{
+    text::hex_behind(key, line).map(floats::value)
+}
+
+// The line of a key: `put` says where in the state its value goes.
+fn gives<T, F: FnOnce(State, T) -> State>(s: State, value: Option<T>, put: F) -> Step
+    requires { F.IsAlwaysCallable put }
+    ensures { MatchOption value (result ≡ bad_of s) (λ v. (next : State) × F.post put s v next × (result ≡ went_of next)) }
+{
+    match value {
+        Some(v) => went(put(s, v)),
+        None => malformed(s),
     }
-    malformed(s)
-}
-
-fn m_line(s: State, line: &[u8]) -> Step
-    ensures { result ≡ m_line s line.now }
-{
-    let v = text::count_behind(b"m=", line, 256);
-    let Num::Is(m) = v else {
-        return malformed(s);
-    };
-    let mut t = s;
-    t.m = m as u16;
-    went(t)
-}
-
-fn r_line(s: State, line: &[u8]) -> Step
-    ensures { result ≡ r_line s line.now }
-{
-    let v = text::count_behind(b"r=", line, 4096);
-    let Num::Is(r) = v else {
-        return malformed(s);
-    };
-    let mut t = s;
-    t.r = r as u16;
-    went(t)
 }
 
 // n with m and r already read: the first line that shows m * r * n.
-fn product_ok(s: State, v: Num) -> Num
+fn product_ok(s: State, v: Option<u16>) -> Option<u16>
     ensures { result ≡ product s v }
 {
-    let Num::Is(n) = v else {
-        return Num::Bad;
-    };
-    if (s.m as usize) * (s.r as usize) * (n as usize) <= 4096 {
-        return Num::Is(n);
+    let n = v?;
+    if (s.m as usize) * (s.r as usize) * (n as usize) > 4096 {
+        return None;
     }
-    Num::Bad
+    Some(n)
 }
 
-fn n_line(s: State, line: &[u8]) -> Step
-    ensures { result ≡ n_line s line.now }
-{
-    let v = product_ok(s, text::count_behind(b"n=", line, 4096));
-    let Num::Is(n) = v else {
-        return malformed(s);
-    };
-    let mut t = s;
-    t.n = n as u16;
-    went(t)
-}
-
-fn rate_line(s: State, line: &[u8]) -> Step
-    ensures { result ≡ rate_line s line.now }
-{
-    let v = text::hex_behind(b"rate=", line);
-    let Num::Is(bits) = v else {
-        return malformed(s);
-    };
-    let mut t = s;
-    t.rate = floats::value(bits);
-    went(t)
-}
-
-fn astep_line(s: State, line: &[u8]) -> Step
-    ensures { result ≡ astep_line s line.now }
-{
-    let v = text::hex_behind(b"astep=", line);
-    let Num::Is(bits) = v else {
-        return malformed(s);
-    };
-    let mut t = s;
-    t.astep = floats::value(bits);
-    went(t)
-}
-
-fn rstep_line(s: State, line: &[u8]) -> Step
-    ensures { result ≡ rstep_line s line.now }
-{
-    let v = text::hex_behind(b"rstep=", line);
-    let Num::Is(bits) = v else {
-        return malformed(s);
-    };
-    let mut t = s;
-    t.rstep = floats::value(bits);
-    went(t)
-}
-
-fn delays_line(s: State, line: &[u8]) -> Step
-    ensures { result ≡ delays_line s line.now }
-{
-    let v = text::count_behind(b"delays=", line, 4096);
-    let Num::Is(d) = v else {
-        return malformed(s);
-    };
-    let mut t = s;
-    t.delays = d as u16;
-    went(t)
-}
-
+// A match and no table of functions: the gate takes no function pointer that is handed out.
 fn key_line(s: State, line: &[u8]) -> Step
     ensures { result ≡ key_line s line.now }
 {
-    let k = s.lines;
-    match k {
+    match s.lines {
         0 => form_line(s, line),
-        1 => kind_line(s, line),
-        2 => m_line(s, line),
-        3 => r_line(s, line),
-        4 => n_line(s, line),
-        5 => rate_line(s, line),
-        6 => astep_line(s, line),
-        7 => rstep_line(s, line),
-        8 => delays_line(s, line),
+        1 => gives(
+            s,
+            line.strip_prefix(b"kind="),
+            |s, word| State {
+                kind: kind_of(word),
+                ..s
+            },
+        ),
+        2 => gives(s, count(b"m=", line, 256), |s, m| State { m, ..s }),
+        3 => gives(s, count(b"r=", line, 4096), |s, r| State { r, ..s }),
+        4 => gives(
+            s,
+            product_ok(s, count(b"n=", line, 4096)),
+            |s, n| State { n, ..s },
+        ),
+        5 => gives(s, value(b"rate=", line), |s, rate| State { rate, ..s }),
+        6 => gives(s, value(b"astep=", line), |s, astep| State { astep, ..s }),
+        7 => gives(s, value(b"rstep=", line), |s, rstep| State { rstep, ..s }),
+        8 => gives(
+            s,
+            count(b"delays=", line, 4096),
+            |s, delays| State { delays, ..s },
+        ),
         _ => malformed(s),
     }
 }
@@ -253,15 +191,19 @@ fn values_line(s: State, key: &[u8], line: &[u8], n: usize, out: &mut [f32], at:
 fn query_line(s: State, line: &[u8]) -> Step
     ensures { result ≡ query_line s line.now }
 {
-    let q = text::point_behind(b"query=", line);
-    let Place::At(p) = q else {
-        return malformed(s);
-    };
-    let mut t = s;
-    t.lines = number(s);
-    Step::Query(t, p)
+    match text::point_behind(b"query=", line) {
+        Some(p) => Step::Query(
+            State {
+                lines: number(s),
+                ..s
+            },
+            p,
+        ),
+        None => malformed(s),
+    }
 }
 
+// Three lists of three things, and not parallel ones: a line of the set fills a place of one of them.
 pub fn take_line(
     s: State,
     line: &[u8],
@@ -294,11 +236,12 @@ pub fn take_line(
     query_line(s, line)
 }
 
-pub fn at_end(s: State, rest: &[u8]) -> End
+// At the end of the text: all is there, or the line of this number is malformed or missing.
+pub fn at_end(s: State, rest: &[u8]) -> Result<(), usize>
     ensures { result ≡ end_of s rest.now }
 {
     if (s.lines < line_count(s)) | (rest.len() != 0) {
-        return End::Cut(number(s));
+        return Err(number(s));
     }
-    End::Fine
+    Ok(())
 }

@@ -10,12 +10,10 @@ use lib.ListN.{length, take, drop, get_or, length-drop}
 use lib.Seq.{take_all, length-take-le}
 use lib.Ieee.{Float}
 use borrow.Author.Tests.{ne_eqb, ltb-true, ltb-false}
-use Rattle.text.specs.declared.Num.{Num}
-use Rattle.text.specs.declared.Num.TheVariants.{Bad}
+use Rattle.std.specs.Prelude.{Option, None}
 use Rattle.text.specs.Number.{begins, count_of, hex_of}
 use Rattle.text.specs.Values.{values_ok, stored}
 use Rattle.text.proofs.Reading.{long_count, other_length}
-use Rattle.text.specs.declared.Place.TheVariants.{Nowhere}
 use Rattle.text.specs.Words.{bytes}
 use Rattle.text.specs.Keys.{exactly_of, num_behind, values_fit, point_read, point_behind}
 use Rattle.settext.specs.declared.State.{State}
@@ -26,7 +24,7 @@ no_word : (w s : List ℕ) → length w < length s → exactly_of w s ≡ false
 unfolding exactly_of
 no_word w s h = rw (ne_eqb (length s) (length w) (λ e. omega arith)) (and-false (begins w s))
 
-no_hex : (s : List ℕ) → 39990 < length s → hex_of s ≡ Bad
+no_hex : (s : List ℕ) → 39990 < length s → hex_of s ≡ None
 unfolding hex_of
 no_hex s h = rw (ne_eqb (length s) 8 (λ e. omega arith))
 
@@ -52,29 +50,29 @@ module _ (l : List ℕ) (long : 40000 ≤ length l) where
   rest_long : (k : ℕ) → k < 10 → 39990 < length (drop k l)
   rest_long k h = simp length-drop (omega arith)
 
-  behind_bad : (key : List ℕ) (read : List ℕ → Num) → read (drop (length key) l) ≡ Bad → num_behind key read l ≡ Bad
+  behind_bad : (key : List ℕ) (read : List ℕ → Option ℕ) → read (drop (length key) l) ≡ None → num_behind key read l ≡ None
   unfolding num_behind
   behind_bad key read e = by (begins key l)
     where
-      by : (b : Bool) → cond b (read (drop (length key) l)) Bad ≡ Bad
+      by : (b : Bool) → cond b (read (drop (length key) l)) None ≡ None
       by true = e
       by false = refl
 
-  count_bad : (key : List ℕ) (k : ℕ) → length key < 10 → k < 10000 → num_behind key (count_of k) l ≡ Bad
+  count_bad : (key : List ℕ) (k : ℕ) → length key < 10 → k < 10000 → num_behind key (count_of k) l ≡ None
   count_bad key k h g = let r = rest_long (length key) h in behind_bad key (count_of k) (long_count k 3 (drop (length key) l) g (omega arith))
 
-  hex_bad : (key : List ℕ) → length key < 10 → num_behind key hex_of l ≡ Bad
+  hex_bad : (key : List ℕ) → length key < 10 → num_behind key hex_of l ≡ None
   hex_bad key h = behind_bad key hex_of (no_hex (drop (length key) l) (rest_long (length key) h))
 
   fit_bad : (key : List ℕ) (n at : ℕ) (d : List Float) → length key < 10 → n ≤ 4096 → values_fit key n at l d ≡ false
   unfolding values_fit
   fit_bad key n at d h g = rw (no_values (drop (length key) l) n (rest_long (length key) h) g) (and-false (begins key l))
 
-  point_bad : (key : List ℕ) → length key < 10 → point_behind key l ≡ Nowhere
+  point_bad : (key : List ℕ) → length key < 10 → point_behind key l ≡ None
   unfolding point_behind point_read
   point_bad key h = by (begins key l) (no_values (drop (length key) l) 3 (rest_long (length key) h) (lit≤ tt))
     where
-      by : (b : Bool) → values_ok (drop (length key) l) 3 ≡ false → cond b (point_read (drop (length key) l)) Nowhere ≡ Nowhere
+      by : (b : Bool) → values_ok (drop (length key) l) 3 ≡ false → cond b (point_read (drop (length key) l)) None ≡ None
       by true e = rw e
       by false e = refl
 

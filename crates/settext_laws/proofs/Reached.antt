@@ -9,12 +9,10 @@ use native.Mathlib.Omega.{arith}
 use borrow.Author.Tests.{leb-true}
 use lib.Dec.{eqb, leb, ltb, lit≤}
 use lib.ListN.{get_or, drop}
-use Rattle.text.specs.declared.Num.{Num}
-use Rattle.text.specs.declared.Num.TheVariants.{Is, Bad}
+use Rattle.std.specs.Prelude.{Option, Some, None}
+use Rattle.points.specs.declared.Point3.{Point3}
 use Rattle.text.specs.Number.{begins, count_of, hex_of}
 use Rattle.text.specs.Values.{value_of}
-use Rattle.text.specs.declared.Place.{Place}
-use Rattle.text.specs.declared.Place.TheVariants.{At, Nowhere}
 use Rattle.text.specs.Words.{bytes}
 use Rattle.text.specs.Keys.{exactly_of, values_fit, num_behind, point_behind}
 use Rattle.settext.specs.declared.State.{State}
@@ -43,19 +41,19 @@ if_good : (b : Bool) (s t : State) → Reached (counted t) → Few (when b s t)
 if_good true s t h = went t h
 if_good false s t h = bad s
 
-if_given : (s : State) (put : ℕ → State) (x : Num) → ((v : ℕ) → x ≡ Is v → Reached (counted (put v))) → Few (gives s put x)
-if_given s put (Is v) h = went (put v) (h v refl)
-if_given s put Bad h = bad s
+if_given : (s : State) (put : ℕ → State) (x : Option ℕ) → ((v : ℕ) → x ≡ Some v → Reached (counted (put v))) → Few (gives s put x)
+if_given s put (Some v) h = went (put v) (h v refl)
+if_given s put None h = bad s
 
 nothing : (a b n : ℕ) → n ≡ 0 → a * b * n ≤ 4096
 nothing a b n e = rw (e, mul-zero (a * b)) (lit≤ tt)
 
-product_fits : (s : State) (x : Num) (v : ℕ) → product s x ≡ Is v → s.m * s.r * v ≤ 4096
+product_fits : (s : State) (x : Option ℕ) (v : ℕ) → product s x ≡ Some v → s.m * s.r * v ≤ 4096
 unfolding product
-product_fits s Bad v e = let z : ◌≡◌ {A = ℕ} 0 1 = cc in omega arith
-product_fits s (Is n) v e = by (leb (s.m * s.r * n) 4096) refl e
+product_fits s None v e = let z : ◌≡◌ {A = ℕ} 0 1 = cc in omega arith
+product_fits s (Some n) v e = by (leb (s.m * s.r * n) 4096) refl e
   where
-    by : (b : Bool) → leb (s.m * s.r * n) 4096 ≡ b → cond b (Is n) Bad ≡ Is v → s.m * s.r * v ≤ 4096
+    by : (b : Bool) → leb (s.m * s.r * n) 4096 ≡ b → cond b (Some n) None ≡ Some v → s.m * s.r * v ≤ 4096
     by true f e = let g : n ≡ v = cc in rw (← g) (leb-true (s.m * s.r * n) 4096 f)
     by false f e = let z : ◌≡◌ {A = ℕ} 0 1 = cc in omega arith
 
@@ -98,9 +96,9 @@ module _ (s : State) (few : Reached s) (l : List ℕ) where
   unfolding query_line
   query = by (point_behind (bytes "query=") l)
     where
-      by : (p : Place) → Few (asked s p)
-      by (At p) = next
-      by Nowhere = bad s
+      by : (p : Option Point3) → Few (asked s p)
+      by (Some p) = next
+      by None = bad s
 
   -- the next line keeps the limits
   pub line : (d : TextLists) → Few (line_of s l d).step

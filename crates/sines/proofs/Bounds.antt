@@ -40,9 +40,6 @@ rest_odd q x h = ap (λ (z : ℕ). cond (eqb z 0) (x * 256 - base (even q)) (bas
     one : (q : ℕ) → (q % 2 ≡ 0 → ⊥) → q % 2 ≡ 1
     one q h = omega arith
 
-pub none : (a b : ℕ) → a < b → (a - b) / 16384 ≡ 0
-none a b h = omega arith
-
 -- ---- the fixed-point results fit
 pub nest_le : (P t : ℕ) (cs : List ℕ) → nest P t cs ≤ P
 unfolding nest
@@ -56,9 +53,6 @@ sin_fix_le a h = sin_le a (nest 1073741824 (square a) sin_divs) h (nest_le 10737
 pub cos_fix_le : (a : ℕ) → cos_fix a ≤ 2147483648
 unfolding cos_fix
 cos_fix_le a = mul-le-mul_left 2 (nest_le 1073741824 (square a) cos_divs)
-
-pub level_le : (t h c r : ℕ) → r ≡ 1073741824 - t * h / 1073741824 / c → r ≤ 1073741824
-level_le t h c r e = subst (λ (z : ℕ). z ≤ 1073741824) (sym e) (sub-le 1073741824 (t * h / 1073741824 / c))
 
 -- what the calls give
 pub sin_got : (a s : ℕ) → a < 17179869184 → s ≡ sin_fix a → s ≤ 2147483648

@@ -115,6 +115,14 @@ cos_from a =
     let k = half q % 4 in
     single (cos_minus k (odd q)) (cos_value k (rest_of q a))
 
+-- both: the sine so many quarters of a turn on from a
+unfoldable pub wave_from : ℕ → Bool → Float → Float
+unfolding places rest_of
+wave_from quarters minus a =
+    let q = scan 20 0 (places 40 a) in
+    let k = (half q + quarters) % 4 in
+    single (xor minus (sin_minus k (odd q))) (sin_value k (rest_of q a))
+
 -- ---- the steps
 unfoldable pub sine_steps : Float → Float
 unfolding absf sin_from

@@ -9,9 +9,10 @@ ghost use Rattle.std.specs.Prelude.{◌≡◌, ◌≤◌, T};
 ghost use Rattle.std.specs.Float.Ieee.Scale.{finite};
 ghost use Rattle.bits.specs.Parts.{places};
 ghost use Rattle.sines.specs.Steps.{xor, scan};
-ghost use Rattle.sines.specs.Sines.{in_range, absf, rest_of, sin_poly, cos_poly, sin_value, sin_minus, cos_value, cos_minus, single, sin_from, cos_from, sine_steps, cosine_steps};
+ghost use Rattle.sines.specs.Sines.{in_range, absf, rest_of, sin_poly, cos_poly, sin_value, sin_minus, single, wave_from, sine_steps, cosine_steps};
 
 // The eighth of a turn, counted from 0, in which x lies, in units of 2^-40.
+// The bound, 16 in units of 2^-40, is asked call by call: a type of such angles would be opened at every step.
 pub fn eighth(x: u64) -> u64
     requires { x ≤ 17592186044416 }
     ensures { result ≡ scan 20 0 x }
@@ -25,27 +26,25 @@ pub fn eighth(x: u64) -> u64
     }
 }
 
-fn size_of(x: f32) -> f32
-    ensures { result ≡ absf x }
-{
-    if x < 0.0 { -x } else { x }
-}
-
-fn size_64(x: f64) -> f64
+// Of an f64, by a test of its own: std's `abs` clears the sign of -0, which the definition keeps.
+#[tactic(auto, unfolding(crate::specs::Sines::absf))]
+fn size(x: f64) -> f64
     ensures { result ≡ absf x }
 {
     if x < 0.0 { -x } else { x }
 }
 
 // |r|: the size of a less the multiple of π/2 that belongs to the eighth q.
+#[tactic(auto, unfolding(crate::specs::Sines::rest_of))]
 fn rest_64(q: u64, a: f32) -> f64
     requires { q ≤ 20 }
     ensures { result ≡ rest_of q a }
 {
     let t = (q + q % 2) as u32 as f64;
-    size_64(std::num::f32_to_f64_with_nan(a) - t * 0.7853981633974483)
+    size(std::num::f32_to_f64_with_nan(a) - t * 0.7853981633974483)
 }
 
+#[tactic(auto, unfolding(crate::specs::Sines::sin_poly))]
 fn sin_poly(r: f64) -> f64
     ensures { result ≡ sin_poly r }
 {
@@ -54,6 +53,7 @@ fn sin_poly(r: f64) -> f64
     (r - c * 0.16666654943701084) + c * z * (0.008332178146138854 - z * 0.00019517298981385725)
 }
 
+#[tactic(auto, unfolding(crate::specs::Sines::cos_poly))]
 fn cos_poly(r: f64) -> f64
     ensures { result ≡ cos_poly r }
 {
@@ -63,7 +63,8 @@ fn cos_poly(r: f64) -> f64
         - y * z * (0.001388676379437604 - z * 2.4390450703564542e-05)
 }
 
-// The size of S by k mod 4, r being the size of the rest.
+// The size of the sine by k mod 4, r being the size of the rest.
+// The quadrant is a number, opened by a match: document 01 has it so.
 fn sin_value(k: u64, r: f64) -> f64
     ensures { result ≡ sin_value k r }
 {
@@ -75,7 +76,7 @@ fn sin_value(k: u64, r: f64) -> f64
     }
 }
 
-// Whether S is below zero, by k mod 4, the rest being so where `down`.
+// Whether the sine is below zero, by k mod 4, the rest being so where `down`.
 fn sin_minus(k: u64, down: bool) -> bool
     ensures { result ≡ sin_minus k down }
 {
@@ -87,68 +88,36 @@ fn sin_minus(k: u64, down: bool) -> bool
     }
 }
 
-// The same of C.
-fn cos_value(k: u64, r: f64) -> f64
-    ensures { result ≡ cos_value k r }
-{
-    match k {
-        0 => cos_poly(r),
-        1 => sin_poly(r),
-        2 => cos_poly(r),
-        _ => sin_poly(r),
-    }
-}
-
-fn cos_minus(k: u64, down: bool) -> bool
-    ensures { result ≡ cos_minus k down }
-{
-    match k {
-        0 => false,
-        1 => !down,
-        2 => true,
-        _ => down,
-    }
-}
-
 // v as an f32, negated where `minus`. From 2^-60 to below 2, where every size was that was met.
 fn rounded(minus: bool, v: f64) -> f32
     ensures { result ≡ single minus v }
 {
-    if 8.673617379884035e-19 <= v {
-        if v < 2.0 {
-            return bits::narrow(minus, v);
-        }
+    if 8.673617379884035e-19 <= v && v < 2.0 {
+        bits::narrow(minus, v)
+    } else {
+        0.0
     }
-    0.0
 }
 
+// Whether two signs differ: by a name, since the definitions of the steps say `xor`.
 pub fn differ(a: bool, b: bool) -> bool
     ensures { result ≡ xor a b }
 {
-    if a { !b } else { b }
+    a != b
 }
 
-// The sine of a, from 2^-12 to 16, negated where `minus`.
-fn sin_from(minus: bool, a: f32) -> f32
+// The sine so many quarters of a turn on from a, which is from 2^-12 to 16, negated where `minus`. The cosine is that of one quarter.
+// `quarters` is added to the count of the quadrant: a number, and no kind.
+fn wave(quarters: u64, minus: bool, a: f32) -> f32
     requires { T (finite a)
-        × (places 40 a ≤ 17592186044416) }
-    ensures { result ≡ sin_from minus a }
+        × (places 40 a ≤ 17592186044416)
+        × (quarters ≤ 1) }
+    ensures { result ≡ wave_from quarters minus a }
 {
     let q = eighth(bits::fixed(a, 40));
-    let k = (q + 1) / 2 % 4;
+    let k = ((q + 1) / 2 + quarters) % 4;
     let v = sin_value(k, rest_64(q, a));
     rounded(differ(minus, sin_minus(k, q % 2 != 0)), v)
-}
-
-fn cos_from(a: f32) -> f32
-    requires { T (finite a)
-        × (places 40 a ≤ 17592186044416) }
-    ensures { result ≡ cos_from a }
-{
-    let q = eighth(bits::fixed(a, 40));
-    let k = (q + 1) / 2 % 4;
-    let v = cos_value(k, rest_64(q, a));
-    rounded(cos_minus(k, q % 2 != 0), v)
 }
 
 // The sine of an x from -16 to 16.
@@ -156,23 +125,24 @@ pub fn sin_of(x: f32) -> f32
     requires { T (in_range x) }
     ensures { result ≡ sine_steps x }
 {
-    let a = size_of(x);
+    let a = floats::abs(x);
     if a < 0.000244140625 {
         return x;
     }
-    sin_from(x < 0.0, a)
+    wave(0, x < 0.0, a)
 }
 
 // The cosine of an x from -16 to 16.
+// Beside `sin_of` for what it answers near 0: every other angle goes by `wave` in both.
 pub fn cos_of(x: f32) -> f32
     requires { T (in_range x) }
     ensures { result ≡ cosine_steps x }
 {
-    let a = size_of(x);
+    let a = floats::abs(x);
     if a < 0.000244140625 {
         return 1.0;
     }
-    cos_from(a)
+    wave(1, false, a)
 }
 
 // Whether x is a number from -16 to 16.

@@ -1,3 +1,1 @@
-pub mod Across
-pub mod Carried
 pub mod Unique

@@ -1,13 +1,21 @@
 -- The conversions at the C border. Definitions only.
-use Rattle.std.specs.Prelude.{ℕ, List, Float}
-use Rattle.limits.specs.declared.Verdict.{Verdict}
-use Rattle.limits.specs.Refusals.{reason_of, place_of}
+use Rattle.std.specs.Prelude.{ℕ, List, Float, Result, Ok, Err}
+use Rattle.refusals.specs.declared.Refusal.{Refusal}
+use Rattle.refusals.specs.Refusals as refusals
 use Rattle.coords.specs.Arrays.{Converted, convert_of}
 use Rattle.sofa.specs.declared.convert.SofaRefusal.{SofaRefusal}
 
--- document 01's number and place; reason 0 and place 0 for none
-abbrev pub refusal_as : Verdict → SofaRefusal
-refusal_as v = record { reason = reason_of v; place = place_of v }
+-- document 01's number of what an answer says no to, and its place; 0 and 0 where nothing is refused
+abbrev pub reason_of : {T : Type 0} → Result T Refusal → ℕ
+reason_of (Ok x) = 0
+reason_of (Err refusal) = refusals.number_of refusal
+
+abbrev pub place_of : {T : Type 0} → Result T Refusal → ℕ
+place_of (Ok x) = 0
+place_of (Err refusal) = refusals.place_of refusal
+
+abbrev pub refusal_as : {T : Type 0} → Result T Refusal → SofaRefusal
+refusal_as answer = record { reason = reason_of answer; place = place_of answer }
 
 -- what a conversion answers, and what its list then holds
 pub record Turned : Type 0 where

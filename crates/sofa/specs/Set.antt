@@ -1,25 +1,23 @@
 -- A set at the C border: document 01's number and values for each case of an answer. Definitions only.
-use Rattle.std.specs.Prelude.{List, cond, Float}
+use Rattle.std.specs.Prelude.{List, cond, Float, Result, Ok, Err}
 use Rattle.floats.specs.Floats.{zero32}
+use Rattle.refusals.specs.declared.Refusal.{Refusal}
+use Rattle.refusals.specs.Refusals.{number_of, place_of}
 use Rattle.delays.specs.declared.Outcome.{Outcome}
 use Rattle.delays.specs.declared.Answer.{Answer}
+use Rattle.delays.specs.declared.Seconds.{Seconds}
 use Rattle.delays.specs.Delays.{answer_of}
 use Rattle.lookup.specs.declared.Lookup.{Lookup}
 use Rattle.lookup.specs.declared.Located.{Located}
 use Rattle.lookup.specs.declared.Located.TheVariants as located
 use Rattle.lookup.specs.Lookup.{Moved}
 use Rattle.interpolate.specs.Blend.{FilterAnswer}
-use Rattle.stored.specs.declared.Part.{Part}
-use Rattle.stored.specs.declared.Part.TheVariants as part
-use Rattle.stored.specs.declared.Around.{Around}
-use Rattle.stored.specs.declared.Around.TheVariants as around
-use Rattle.stored.specs.declared.MaxDelay.{MaxDelay}
-use Rattle.stored.specs.declared.MaxDelay.TheVariants as longest
-use Rattle.loads.specs.declared.Loaded.{Loaded}
-use Rattle.loads.specs.declared.Loaded.TheVariants as loaded
+use Rattle.stored.specs.declared.Taps.{Taps}
+use Rattle.stored.specs.declared.Entries.{Entries}
 use Rattle.loads.specs.Load.{Work, Load}
 use Rattle.sofa.specs.declared.SofaValue.{SofaValue}
 use Rattle.sofa.specs.declared.tree.SofaFound.{SofaFound}
+use Rattle.sofa.specs.Tree.{no_box}
 use Rattle.sofa.specs.declared.set.SofaLoaded.{SofaLoaded}
 use Rattle.sofa.specs.declared.set.SofaFiltered.{SofaFiltered}
 use Rattle.sofa.specs.declared.set.SofaPart.{SofaPart}
@@ -30,12 +28,12 @@ use Rattle.sofa.specs.declared.set.SofaNeighbors.{SofaNeighbors}
 -- a refused number is 65535
 abbrev pub located_as : Located → SofaFound
 located_as (located.At n) = record { reason = 0; place = 0; number = n }
-located_as (located.Refused n p) = record { reason = n; place = p; number = 65535 }
+located_as (located.Refused refusal) = record { reason = number_of refusal; place = place_of refusal; number = 65535 }
 
 -- refused, the box and the bounds are +0
 abbrev pub no_lookup : Lookup
 no_lookup = record {
-  bounds = record { min_x = zero32; min_y = zero32; min_z = zero32; max_x = zero32; max_y = zero32; max_z = zero32 };
+  bounds = no_box;
   phi_min = zero32;
   phi_max = zero32;
   theta_min = zero32;
@@ -44,9 +42,9 @@ no_lookup = record {
   radius_max = zero32;
 }
 
-abbrev pub loaded_as : Loaded → SofaLoaded
-loaded_as (loaded.Ready look) = record { reason = 0; place = 0; lookup = look }
-loaded_as (loaded.Refused n p) = record { reason = n; place = p; lookup = no_lookup }
+abbrev pub loaded_as : Result Lookup Refusal → SofaLoaded
+loaded_as (Ok look) = record { reason = 0; place = 0; lookup = look }
+loaded_as (Err refusal) = record { reason = number_of refusal; place = place_of refusal; lookup = no_lookup }
 
 -- the fields of an answer; blended is 1 or 0
 abbrev pub answer_as : Answer → SofaFiltered
@@ -57,21 +55,21 @@ abbrev pub filtered_as : Outcome → SofaFiltered
 filtered_as o = answer_as (answer_of o)
 
 -- refused, the part is empty
-abbrev pub part_as : Part → SofaPart
-part_as (part.Taps start count) = record { reason = 0; place = 0; start = start; count = count }
-part_as (part.Refused n p) = record { reason = n; place = p; start = 0; count = 0 }
+abbrev pub part_as : Result Taps Refusal → SofaPart
+part_as (Ok taps) = record { reason = 0; place = 0; start = taps.start; count = taps.count }
+part_as (Err refusal) = record { reason = number_of refusal; place = place_of refusal; start = 0; count = 0 }
 
 -- refused, each entry is 65535
-abbrev pub around_as : Around → SofaNeighbors
-around_as (around.Six e) =
+abbrev pub around_as : Result Entries Refusal → SofaNeighbors
+around_as (Ok e) =
     record { reason = 0; place = 0; phi_plus = e.phi_plus; phi_minus = e.phi_minus; theta_plus = e.theta_plus; theta_minus = e.theta_minus; radius_plus = e.radius_plus; radius_minus = e.radius_minus }
-around_as (around.Refused n p) =
-    record { reason = n; place = p; phi_plus = 65535; phi_minus = 65535; theta_plus = 65535; theta_minus = 65535; radius_plus = 65535; radius_minus = 65535 }
+around_as (Err refusal) =
+    record { reason = number_of refusal; place = place_of refusal; phi_plus = 65535; phi_minus = 65535; theta_plus = 65535; theta_minus = 65535; radius_plus = 65535; radius_minus = 65535 }
 
 -- seconds; refused, +0
-abbrev pub longest_as : MaxDelay → SofaValue
-longest_as (longest.Delay s) = record { reason = 0; place = 0; value = s.0 }
-longest_as (longest.Refused n p) = record { reason = n; place = p; value = zero32 }
+abbrev pub longest_as : Result Seconds Refusal → SofaValue
+longest_as (Ok s) = record { reason = 0; place = 0; value = s.0 }
+longest_as (Err refusal) = record { reason = number_of refusal; place = place_of refusal; value = zero32 }
 
 -- ---- an answer with what the lent lists then hold
 

@@ -1,28 +1,28 @@
 -- The bare tree at the C border: what stands for each case of its answers. Definitions only.
-use Rattle.std.specs.Prelude.{ℕ, Float}
+use Rattle.std.specs.Prelude.{ℕ, Float, Option, Some, None, Result, Ok, Err}
 use Rattle.floats.specs.Floats.{zero32}
 use Rattle.points.specs.declared.Point3.{Point3}
 use Rattle.kdtree.specs.declared.BoundingBox.{BoundingBox}
-use Rattle.kdtree.specs.declared.Inserted.{Inserted}
-use Rattle.kdtree.specs.declared.Inserted.TheVariants as inserted
-use Rattle.kdtree.specs.declared.Named.{Named}
-use Rattle.kdtree.specs.declared.Named.TheVariants as named
+use Rattle.refusals.specs.declared.Refusal.{Refusal}
+use Rattle.refusals.specs.Refusals.{number_of, place_of}
 use Rattle.kdtree.specs.Insert.{Lists, Stored, insert_of}
 use Rattle.kdtree.specs.Nearest.{nearest_of}
 use Rattle.sofa.specs.declared.tree.SofaInserted.{SofaInserted}
 use Rattle.sofa.specs.declared.tree.SofaFound.{SofaFound}
 
+abbrev pub no_box : BoundingBox
+no_box = record { min_x = zero32; min_y = zero32; min_z = zero32; max_x = zero32; max_y = zero32; max_z = zero32 }
+
 -- the new box, with reason 0; a refusal has its number and place, and +0 for each corner
-abbrev pub inserted_as : Inserted → SofaInserted
-inserted_as (inserted.Done b) = record { reason = 0; place = 0; bounds = b }
-inserted_as (inserted.Refused n p) =
-    record { reason = n; place = p; bounds = record { min_x = zero32; min_y = zero32; min_z = zero32; max_x = zero32; max_y = zero32; max_z = zero32 } }
+abbrev pub inserted_as : Result BoundingBox Refusal → SofaInserted
+inserted_as (Ok b) = record { reason = 0; place = 0; bounds = b }
+inserted_as (Err refusal) = record { reason = number_of refusal; place = place_of refusal; bounds = no_box }
 
 -- the number, with reason 0; nothing is 65535, with reason 0; a refusal has its number and place, and 65535
-abbrev pub found_as : Named → SofaFound
-found_as named.Nothing = record { reason = 0; place = 0; number = 65535 }
-found_as (named.Number n) = record { reason = 0; place = 0; number = n }
-found_as (named.Refused n p) = record { reason = n; place = p; number = 65535 }
+abbrev pub found_as : Result (Option ℕ) Refusal → SofaFound
+found_as (Ok None) = record { reason = 0; place = 0; number = 65535 }
+found_as (Ok (Some n)) = record { reason = 0; place = 0; number = n }
+found_as (Err refusal) = record { reason = number_of refusal; place = place_of refusal; number = 65535 }
 
 abbrev pub point : Float → Float → Float → Point3
 point x y z = record { x = x; y = y; z = z }

@@ -1,8 +1,8 @@
-// Conversions in place for hosts: crate `coords`'s, their promises carried across by specs/Convert.antt.
+// Refusals, and conversions in place for hosts: crate `coords`'s, their promises carried across by specs/Convert.antt.
 ghost use Rattle.std.specs.Prelude.{◌≡◌};
 ghost use Rattle.sofa.specs.Convert.{refusal_as, turned_by, turn_says};
 
-use limits::Verdict;
+use refusals::Refusal;
 
 #[repr(C)]
 #[derive(Clone, Copy)]
@@ -11,23 +11,33 @@ pub struct SofaRefusal {
     pub place: usize,
 }
 
-fn refusal(v: Verdict) -> SofaRefusal
-    ensures { result ≡ refusal_as v }
-{
-    SofaRefusal {
-        reason: limits::reason(v),
-        place: limits::place(v),
+// What any answer says no to.
+impl<T: Drop> From<Result<T, Refusal>> for SofaRefusal {
+    ghost from_gives = { λ answer r. r ≡ refusal_as answer };
+
+    fn from(answer: Result<T, Refusal>) -> Self {
+        match answer {
+            Ok(_) => SofaRefusal {
+                reason: 0,
+                place: 0,
+            },
+            Err(refusal) => SofaRefusal {
+                reason: refusal.number(),
+                place: refusal.place(),
+            },
+        }
     }
 }
 
+// Two functions, since each name is exported to C.
 pub fn sofa_to_spherical(values: &mut [f32]) -> SofaRefusal
     ensures { turned_by result values.new ≡ turn_says 0 values.old }
 {
-    refusal(coords::convert_array_to_spherical(values))
+    coords::convert_array_to_spherical(values).into()
 }
 
 pub fn sofa_to_cartesian(values: &mut [f32]) -> SofaRefusal
     ensures { turned_by result values.new ≡ turn_says 1 values.old }
 {
-    refusal(coords::convert_array_to_cartesian(values))
+    coords::convert_array_to_cartesian(values).into()
 }

@@ -1,4 +1,5 @@
-// A set for hosts: crates `loads`'s, `lookup`'s and `reader`'s calls, their promises carried across by specs/Set.antt.
+// A set for hosts: crates `loads`'s, `lookup`'s and `reader`'s calls, their promises carried across by specs/Set.antt. Arguments stand one by one, and
+// structs are of plain numbers, since that is the C interface.
 ghost use Rattle.std.specs.Prelude.{◌≡◌, length};
 ghost use Rattle.lookup.specs.Lookup.{find_of, find_mut_of};
 ghost use Rattle.loads.specs.Load.{work_of, load_of};
@@ -9,14 +10,15 @@ ghost use Rattle.sofa.specs.Tree.{point};
 ghost use Rattle.sofa.specs.Set.{located_as, loaded_as, filtered_as, part_as, around_as, longest_as, loaded_by, load_told, moved_by, move_told, filtered_by, filter_told};
 
 use crate::SofaValue;
-use crate::tree::SofaFound;
-use delays::Outcome;
-use kdtree::BoundingBox;
+use crate::convert::SofaRefusal;
+use crate::tree::{NO_BOX, SofaFound};
+use delays::{Outcome, Seconds};
 use limits::Sizes;
-use loads::Loaded;
 use lookup::{Located, Lookup};
 use points::Point3;
-use stored::{Around, MaxDelay, Part};
+use reader::{Recorded, Set};
+use refusals::Refusal;
+use stored::{Ear, Entries, Taps};
 
 #[repr(C)]
 #[derive(Clone, Copy)]
@@ -62,52 +64,38 @@ pub struct SofaNeighbors {
 
 // ---- load and find
 
-fn loaded(a: Loaded) -> SofaLoaded
-    ensures { result ≡ loaded_as a }
-{
-    match a {
-        Loaded::Ready(lookup) => SofaLoaded {
-            reason: 0,
-            place: 0,
-            lookup,
-        },
-        Loaded::Refused(n, p) => SofaLoaded {
-            reason: n,
-            place: p,
-            lookup: Lookup {
-                bounds: BoundingBox {
-                    min_x: 0.0,
-                    min_y: 0.0,
-                    min_z: 0.0,
-                    max_x: 0.0,
-                    max_y: 0.0,
-                    max_z: 0.0,
-                },
-                phi_min: 0.0,
-                phi_max: 0.0,
-                theta_min: 0.0,
-                theta_max: 0.0,
-                radius_min: 0.0,
-                radius_max: 0.0,
-            },
-        },
+const NO_LOOKUP: Lookup = Lookup {
+    bounds: NO_BOX,
+    phi_min: 0.0,
+    phi_max: 0.0,
+    theta_min: 0.0,
+    theta_max: 0.0,
+    radius_min: 0.0,
+    radius_max: 0.0,
+};
+
+impl From<Result<Lookup, Refusal>> for SofaLoaded {
+    ghost from_gives = { λ answer r. r ≡ loaded_as answer };
+
+    fn from(answer: Result<Lookup, Refusal>) -> Self {
+        let SofaRefusal { reason, place } = answer.into();
+        SofaLoaded {
+            reason,
+            place,
+            lookup: answer.unwrap_or(NO_LOOKUP),
+        }
     }
 }
 
-fn located(a: Located) -> SofaFound
-    ensures { result ≡ located_as a }
-{
-    match a {
-        Located::At(number) => SofaFound {
-            reason: 0,
-            place: 0,
-            number,
-        },
-        Located::Refused(n, p) => SofaFound {
-            reason: n,
-            place: p,
-            number: 65535,
-        },
+impl From<Located> for SofaFound {
+    ghost from_gives = { λ found r. r ≡ located_as found };
+
+    fn from(found: Located) -> Self {
+        let number: Result<Option<u16>, Refusal> = match found {
+            Located::At(number) => Ok(Some(number)),
+            Located::Refused(refusal) => Err(refusal),
+        };
+        number.into()
     }
 }
 
@@ -128,7 +116,7 @@ pub fn sofa_load(
         ≡ load_told (load_of kind sizes positions.now (length responses.now) angle_step radius_step rate
         (work_of left.old right.old neighbours.old cartesian.old)) }
 {
-    loaded(loads::load(
+    loads::load(
         kind,
         sizes,
         positions,
@@ -140,7 +128,8 @@ pub fn sofa_load(
         right,
         neighbours,
         cartesian,
-    ))
+    )
+    .into()
 }
 
 pub fn sofa_find(
@@ -155,8 +144,8 @@ pub fn sofa_find(
 ) -> SofaFound
     ensures { result ≡ located_as (find_of look sizes cartesian.now left.now right.now (point x y z)) }
 {
-    let q = Point3 { x: x, y: y, z: z };
-    located(look.find(sizes, cartesian, left, right, q))
+    let q = Point3 { x, y, z };
+    look.find(sizes, cartesian, left, right, q).into()
 }
 
 pub fn sofa_find_mut(
@@ -169,26 +158,29 @@ pub fn sofa_find_mut(
 ) -> SofaFound
     ensures { moved_by result coordinate.new ≡ move_told (find_mut_of look sizes cartesian.now left.now right.now coordinate.old) }
 {
-    located(look.find_mut(sizes, cartesian, left, right, coordinate))
+    look.find_mut(sizes, cartesian, left, right, coordinate)
+        .into()
 }
 
 // ---- filters
 
-fn filtered(a: Outcome) -> SofaFiltered
-    ensures { result ≡ filtered_as a }
-{
-    let told = delays::answer_of(a);
-    let blended = if told.blended { 1 } else { 0 };
-    SofaFiltered {
-        reason: told.reason,
-        place: told.place,
-        blended,
-        points: told.points,
-        ldelay: told.left.0,
-        rdelay: told.right.0,
+impl From<Outcome> for SofaFiltered {
+    ghost from_gives = { λ outcome r. r ≡ filtered_as outcome };
+
+    fn from(outcome: Outcome) -> Self {
+        let told = delays::answer_of(outcome);
+        SofaFiltered {
+            reason: told.reason,
+            place: told.place,
+            blended: u32::from(told.blended),
+            points: told.points,
+            ldelay: told.left.0,
+            rdelay: told.right.0,
+        }
     }
 }
 
+// The set is put together in both filters: a function for it would take the same eight arguments again.
 pub fn sofa_filter(
     sizes: Sizes,
     look: Lookup,
@@ -209,11 +201,20 @@ pub fn sofa_filter(
         ≡ filter_told (filter_says sizes look cartesian.now left.now right.now neighbours.now responses.now delays.now rate
         (point x y z) (length out_left.old) (length out_right.old)) }
 {
-    let q = Point3 { x: x, y: y, z: z };
-    filtered(reader::filter(
-        sizes, look, cartesian, left, right, neighbours, responses, delays, rate, q, out_left,
-        out_right,
-    ))
+    let q = Point3 { x, y, z };
+    let set = Set {
+        recorded: Recorded {
+            sizes,
+            responses,
+            delays,
+            rate,
+        },
+        look,
+        cartesian,
+        left,
+        right,
+    };
+    set.filter(neighbours, q, out_left, out_right).into()
 }
 
 pub fn sofa_filter_nointerp(
@@ -235,10 +236,20 @@ pub fn sofa_filter_nointerp(
         ≡ filter_told (plain_says sizes look cartesian.now left.now right.now responses.now delays.now rate
         (point x y z) (length out_left.old) (length out_right.old)) }
 {
-    let q = Point3 { x: x, y: y, z: z };
-    filtered(reader::filter_nointerp(
-        sizes, look, cartesian, left, right, responses, delays, rate, q, out_left, out_right,
-    ))
+    let q = Point3 { x, y, z };
+    let set = Set {
+        recorded: Recorded {
+            sizes,
+            responses,
+            delays,
+            rate,
+        },
+        look,
+        cartesian,
+        left,
+        right,
+    };
+    set.filter_nointerp(q, out_left, out_right).into()
 }
 
 pub fn sofa_filter_number(
@@ -253,94 +264,89 @@ pub fn sofa_filter_number(
     ensures { filtered_by result out_left.new out_right.new
         ≡ filter_told (number_says sizes responses.now delays.now rate number (length out_left.old) (length out_right.old)) }
 {
-    filtered(reader::filter_number(sizes, responses, delays, rate, number, out_left, out_right))
+    let recorded = Recorded {
+        sizes,
+        responses,
+        delays,
+        rate,
+    };
+    recorded.filter_number(number, out_left, out_right).into()
 }
 
 // ---- a measurement by its number, and the longest delay
 
-fn part(a: Part) -> SofaPart
-    ensures { result ≡ part_as a }
-{
-    match a {
-        Part::Taps(start, count) => SofaPart {
-            reason: 0,
-            place: 0,
+impl From<Result<Taps, Refusal>> for SofaPart {
+    ghost from_gives = { λ part r. r ≡ part_as part };
+
+    fn from(part: Result<Taps, Refusal>) -> Self {
+        let SofaRefusal { reason, place } = part.into();
+        let Taps { start, count } = part.unwrap_or(Taps { start: 0, count: 0 });
+        SofaPart {
+            reason,
+            place,
             start,
             count,
-        },
-        Part::Refused(n, p) => SofaPart {
-            reason: n,
-            place: p,
-            start: 0,
-            count: 0,
-        },
+        }
     }
 }
 
+// Two functions, since each name is exported to C.
 pub fn sofa_left_response(sizes: Sizes, responses: &[f32], number: usize) -> SofaPart
     ensures { result ≡ part_as (part_of sizes (length responses.now) number 0) }
 {
-    part(stored::left_part(sizes, responses.len(), number))
+    stored::part_of(sizes, responses.len(), number, Ear::Left).into()
 }
 
 pub fn sofa_right_response(sizes: Sizes, responses: &[f32], number: usize) -> SofaPart
     ensures { result ≡ part_as (part_of sizes (length responses.now) number 1) }
 {
-    part(stored::right_part(sizes, responses.len(), number))
+    stored::part_of(sizes, responses.len(), number, Ear::Right).into()
 }
 
-fn around(a: Around) -> SofaNeighbors
-    ensures { result ≡ around_as a }
-{
-    match a {
-        Around::Six(e) => SofaNeighbors {
-            reason: 0,
-            place: 0,
-            phi_plus: e.phi_plus,
-            phi_minus: e.phi_minus,
-            theta_plus: e.theta_plus,
-            theta_minus: e.theta_minus,
-            radius_plus: e.radius_plus,
-            radius_minus: e.radius_minus,
-        },
-        Around::Refused(n, p) => SofaNeighbors {
-            reason: n,
-            place: p,
-            phi_plus: 65535,
-            phi_minus: 65535,
-            theta_plus: 65535,
-            theta_minus: 65535,
-            radius_plus: 65535,
-            radius_minus: 65535,
-        },
+const NO_ENTRIES: Entries = Entries {
+    phi_plus: 65535,
+    phi_minus: 65535,
+    theta_plus: 65535,
+    theta_minus: 65535,
+    radius_plus: 65535,
+    radius_minus: 65535,
+};
+
+impl From<Result<Entries, Refusal>> for SofaNeighbors {
+    ghost from_gives = { λ around r. r ≡ around_as around };
+
+    fn from(around: Result<Entries, Refusal>) -> Self {
+        let SofaRefusal { reason, place } = around.into();
+        let six = around.unwrap_or(NO_ENTRIES);
+        SofaNeighbors {
+            reason,
+            place,
+            phi_plus: six.phi_plus,
+            phi_minus: six.phi_minus,
+            theta_plus: six.theta_plus,
+            theta_minus: six.theta_minus,
+            radius_plus: six.radius_plus,
+            radius_minus: six.radius_minus,
+        }
     }
 }
 
 pub fn sofa_neighbors_of(sizes: Sizes, neighbours: &[u16], number: usize) -> SofaNeighbors
     ensures { result ≡ around_as (around_of sizes neighbours.now number) }
 {
-    around(stored::neighbors_of(sizes, neighbours, number))
+    stored::neighbors_of(sizes, neighbours, number).into()
 }
 
-fn longest(a: MaxDelay) -> SofaValue
-    ensures { result ≡ longest_as a }
-{
-    match a {
-        MaxDelay::Delay(seconds) => SofaValue {
-            reason: 0,
-            place: 0,
-            value: seconds.0,
-        },
-        MaxDelay::Refused(n, p) => SofaValue {
-            reason: n,
-            place: p,
-            value: 0.0,
-        },
+impl From<Result<Seconds, Refusal>> for SofaValue {
+    ghost from_gives = { λ longest v. v ≡ longest_as longest };
+
+    fn from(longest: Result<Seconds, Refusal>) -> Self {
+        longest.map(|seconds| seconds.0).into()
     }
 }
 
 pub fn sofa_max_delay(delays: &[f32], rate: f32) -> SofaValue
     ensures { result ≡ longest_as (max_delay_of delays.now rate) }
 {
-    longest(stored::max_delay(delays, rate))
+    stored::max_delay(delays, rate).into()
 }

@@ -1,10 +1,13 @@
-// The bare tree for hosts: `kdtree::insert` and `kdtree::nearest`, their promises carried across by specs/Tree.antt.
+// The bare tree for hosts: `kdtree::insert` and `kdtree::nearest`, their promises carried across by specs/Tree.antt. Arguments stand one by one, and
+// structs are of plain numbers, since that is the C interface.
 ghost use Rattle.std.specs.Prelude.{◌≡◌};
 ghost use Rattle.kdtree.specs.Insert.{lists_of};
 ghost use Rattle.sofa.specs.Tree.{inserted_as, found_as, left_by, insert_says, nearest_says};
 
-use kdtree::{BoundingBox, Inserted, Named};
+use crate::convert::SofaRefusal;
+use kdtree::BoundingBox;
 use points::Point3;
+use refusals::Refusal;
 
 #[repr(C)]
 #[derive(Clone, Copy)]
@@ -23,49 +26,41 @@ pub struct SofaFound {
     pub number: u16,
 }
 
-fn inserted(a: Inserted) -> SofaInserted
-    ensures { result ≡ inserted_as a }
-{
-    match a {
-        Inserted::Done(b) => SofaInserted {
-            reason: 0,
-            place: 0,
-            bounds: b,
-        },
-        Inserted::Refused(n, p) => SofaInserted {
-            reason: n,
-            place: p,
-            bounds: BoundingBox {
-                min_x: 0.0,
-                min_y: 0.0,
-                min_z: 0.0,
-                max_x: 0.0,
-                max_y: 0.0,
-                max_z: 0.0,
-            },
-        },
+// Where there is none.
+const NO_NUMBER: u16 = 65535;
+
+pub const NO_BOX: BoundingBox = BoundingBox {
+    min_x: 0.0,
+    min_y: 0.0,
+    min_z: 0.0,
+    max_x: 0.0,
+    max_y: 0.0,
+    max_z: 0.0,
+};
+
+impl From<Result<BoundingBox, Refusal>> for SofaInserted {
+    ghost from_gives = { λ answer r. r ≡ inserted_as answer };
+
+    fn from(answer: Result<BoundingBox, Refusal>) -> Self {
+        let SofaRefusal { reason, place } = answer.into();
+        SofaInserted {
+            reason,
+            place,
+            bounds: answer.unwrap_or(NO_BOX),
+        }
     }
 }
 
-fn found(a: Named) -> SofaFound
-    ensures { result ≡ found_as a }
-{
-    match a {
-        Named::Nothing => SofaFound {
-            reason: 0,
-            place: 0,
-            number: 65535,
-        },
-        Named::Number(n) => SofaFound {
-            reason: 0,
-            place: 0,
-            number: n,
-        },
-        Named::Refused(n, p) => SofaFound {
-            reason: n,
-            place: p,
-            number: 65535,
-        },
+impl From<Result<Option<u16>, Refusal>> for SofaFound {
+    ghost from_gives = { λ answer r. r ≡ found_as answer };
+
+    fn from(answer: Result<Option<u16>, Refusal>) -> Self {
+        let SofaRefusal { reason, place } = answer.into();
+        SofaFound {
+            reason,
+            place,
+            number: answer.unwrap_or(None).unwrap_or(NO_NUMBER),
+        }
     }
 }
 
@@ -84,8 +79,8 @@ pub fn sofa_tree_insert(
     ensures { left_by result (lists_of positions.new left.new right.new numbers.new)
         ≡ insert_says (lists_of positions.old left.old right.old numbers.old) count bounds x y z number }
 {
-    let p = Point3 { x: x, y: y, z: z };
-    inserted(kdtree::insert(count, bounds, positions, left, right, numbers, p, number))
+    let p = Point3 { x, y, z };
+    kdtree::insert(count, bounds, positions, left, right, numbers, p, number).into()
 }
 
 pub fn sofa_tree_nearest(
@@ -101,6 +96,6 @@ pub fn sofa_tree_nearest(
 ) -> SofaFound
     ensures { result ≡ nearest_says (lists_of positions.now left.now right.now numbers.now) count bounds x y z }
 {
-    let q = Point3 { x: x, y: y, z: z };
-    found(kdtree::nearest(count, bounds, positions, left, right, numbers, q))
+    let q = Point3 { x, y, z };
+    kdtree::nearest(count, bounds, positions, left, right, numbers, q).into()
 }

@@ -13,11 +13,10 @@ use Rattle.lists.specs.Each.{Each}
 use Rattle.points.specs.declared.Point3.{Point3}
 use Rattle.points.specs.Points.{Finite}
 use Rattle.kdtree.specs.declared.BoundingBox.{BoundingBox}
+use Rattle.std.specs.Prelude.{Option, Some, None, Result, Ok, Err}
+use Rattle.refusals.specs.declared.Refusal.{Refusal}
 use Rattle.kdtree.specs.declared.Slot.{Slot}
 use Rattle.kdtree.specs.declared.Slot.TheVariants as slot
-use Rattle.kdtree.specs.declared.Inserted.{Inserted}
-use Rattle.kdtree.specs.declared.Inserted.TheVariants.{Done, Refused}
-use Rattle.kdtree.specs.declared.Named.TheVariants.{Number}
 use Rattle.kdtree.specs.Geometry.{box_at}
 use Rattle.kdtree.specs.Insert.{Lists, Stored, stored_as, tree_of, slot_in, written, has_room, no_room, by_slot, insert_of}
 use Rattle.kdtree.specs.Nearest.{nearest_of}
@@ -25,33 +24,33 @@ use Rattle.kdtree_laws.specs.Demand3.{Numbered, Nearer, SomeNan, Reordered, Bare
 use Rattle.kdtree_laws.proofs.Lists.{each_reordered, in_reordered}
 use Rattle.kdtree_laws.proofs.Demand3 as walks
 use Rattle.kdtree_laws.proofs.Demand3.{both_orders}
-use Rattle.source.specs.Rust.{Option, None, Some}
 use Rattle.source.specs.Kdtree.{new_tree, nearest}
-use Rattle.source_laws.specs.Bare as source
 use Rattle.source_laws.specs.Bare.{inserted, SameTree}
 use Rattle.source_laws.proofs.Bare.{bare}
 use Rattle.sofa.specs.declared.tree.SofaFound.{SofaFound}
 use Rattle.sofa.specs.Tree.{Left, inserted_as, found_as, point, left_by, insert_told}
+use Rattle.refusals.specs.Refusals.{number_of}
+use Rattle.sofa_laws.proofs.Host.{above_zero}
 use Rattle.sofa_laws.specs.Bare.{stored_in, gone_on, InsertCall, Inserts, none, more, NearestCall, name_heard, BareHeard, Demand3Heard}
 
 -- ---- a refused insert has a number above 0 and writes nothing
 
-abbrev Kept : Lists → Inserted → Lists → Type 0
-Kept a (Done b) l = Unit
-Kept a (Refused k p) l = (0 < k) × (l ≡ a)
+abbrev Kept : Lists → Result BoundingBox Refusal → Lists → Type 0
+Kept a (Ok b) l = Unit
+Kept a (Err refusal) l = l ≡ a
 
 slot_kept : (s : Slot) (a : Lists) (c : ℕ) (b : BoundingBox) (p : Point3) (n : ℕ) → Kept a (by_slot s a c b p n).out (by_slot s a c b p n).lists
 unfolding by_slot
 slot_kept (slot.Left o) a c b p n = tt
 slot_kept (slot.Right o) a c b p n = tt
-slot_kept slot.None a c b p n = (omega arith, refl)
+slot_kept slot.Blocked a c b p n = refl
 
 insert_kept : (a : Lists) (c : ℕ) (b : BoundingBox) (p : Point3) (n : ℕ) → Kept a (insert_of a c b p n).out (insert_of a c b p n).lists
 unfolding insert_of
 insert_kept a c b p n = room (has_room a c)
   where
     first : Stored
-    first = record { out = Done (box_at p); lists = written a c p n }
+    first = record { out = Ok (box_at p); lists = written a c p n }
 
     later : Stored
     later = by_slot (slot_in p (tree_of a c c) 0) a c b p n
@@ -62,14 +61,14 @@ insert_kept a c b p n = room (has_room a c)
 
     room : (e : Bool) → Kept a (cond e (cond (eqb c 0) first later) (no_room a)).out (cond e (cond (eqb c 0) first later) (no_room a)).lists
     room true = which (eqb c 0)
-    room false = (omega arith, refl)
+    room false = refl
 
 -- ---- what the host goes on with is what a fill goes on with
 
-gone_on_lem : (o : Inserted) (l : Lists) (t : Bare) → Kept t.lists o l → gone_on (inserted_as o) l t ≡ kept (stored_as o l) t
+gone_on_lem : (o : Result BoundingBox Refusal) (l : Lists) (t : Bare) → Kept t.lists o l → gone_on (inserted_as o) l t ≡ kept (stored_as o l) t
 unfolding kept
-gone_on_lem (Done b) l t k = refl
-gone_on_lem (Refused n p) l t k = rw (ne_eqb n 0 (λ z. let h = k.0 in omega arith)) (λ i. record { lists = k.1 i; count = t.count; bounds = t.bounds })
+gone_on_lem (Ok b) l t k = refl
+gone_on_lem (Err refusal) l t k = rw (ne_eqb (number_of refusal) 0 (λ z. let h = above_zero refusal in omega arith)) (λ i. record { lists = k i; count = t.count; bounds = t.bounds })
 
 module _ (m : Numbered) (t t' : Bare) (I : InsertCall m t t') where
   insert_says_lem : left_by I.r (stored_in I.κs I.e) ≡ insert_told (insert_into t m)
@@ -97,7 +96,7 @@ calls_fill (m ∷ l) t u (more {t' = t'} I rest) = calls_fill l t' u rest ∙ ap
 asked : (t : Bare) (q : Point3) (f : SofaFound) → NearestCall t q f → f ≡ found_as (nearest_in t q)
 asked t q f N = N.contract ∙ (λ i. found_as (nearest_of (N.lists i) (N.count i) (N.bounds i) (point (N.x i) (N.y i) (N.z i))))
 
-named_so : (o : Option ℕ) → found_as (source.named o) ≡ name_heard o
+named_so : (o : Option ℕ) → found_as (Ok o) ≡ name_heard o
 named_so None = refl
 named_so (Some number) = refl
 
@@ -109,7 +108,7 @@ module _ (a : Lists) (b : BoundingBox) where
   counted [] r = refl
   counted (m ∷ ms) r = walks.count_is a b m ms r
 
-  rooted : (l : List Numbered) → RoomFor a (length l) → (m : Numbered) (ms : List Numbered) → l ≡ m ∷ ms → (q : Point3) → SomeNan q → nearest_in (fill l (empty a b)) q ≡ Number m.number
+  rooted : (l : List Numbered) → RoomFor a (length l) → (m : Numbered) (ms : List Numbered) → l ≡ m ∷ ms → (q : Point3) → SomeNan q → nearest_in (fill l (empty a b)) q ≡ Ok (Some m.number)
   rooted l r m ms e q n = rw e (walks.nan_query a b m ms (subst (λ (k : List Numbered). RoomFor a (length k)) e r) q n)
 
   -- ONE TREE: room for all, and the inserts that a host made from the empty one on

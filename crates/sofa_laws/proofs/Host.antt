@@ -6,23 +6,21 @@ use Prim.Native.Nat.{ℕ, ◌<◌, ◌≤◌, ◌+◌}
 use native.Mathlib.Omega.{arith}
 use lib.ListN.{length}
 use lib.Ieee.{Float}
-use Rattle.lists.specs.Each.{Each}
 use Rattle.points.specs.declared.Point3.{Point3}
 use Rattle.points.specs.Points.{Finite}
-use Rattle.limits.specs.declared.Verdict.{Verdict}
-use Rattle.limits.specs.declared.Verdict.TheVariants as verdict
-use Rattle.limits.specs.Refusals.{Check, verdict_of, reason_of, place_of}
+use Rattle.std.specs.Prelude.{⊤, Result, Ok, Err}
+use Rattle.std.specs.Result.{result_and}
+use Rattle.refusals.specs.declared.Refusal.{Refusal}
+use Rattle.refusals.specs.declared.Refusal.TheVariants.{UnknownKind, BadSizes, ShortLists, BadPosition, BadAngleStep, BadRadiusStep, BadRate, BadValue, NoMeasurement, BadLink}
+use Rattle.refusals.specs.Refusals.{number_of}
 use Rattle.lookup.specs.declared.Lookup.{Lookup}
 use Rattle.lookup.specs.Lookup.{find_of, find_mut_of}
 use Rattle.mix.specs.Mix.{start_of}
 use Rattle.mix.proofs.Laws.{inside}
-use Rattle.stored.specs.declared.Part.{Part}
-use Rattle.stored.specs.declared.Part.TheVariants.{Taps}
-use Rattle.stored.specs.Numbers.{part_by, part_of, taps_in, response_of, around_of}
+use Rattle.stored.specs.declared.Taps.{Taps}
+use Rattle.stored.specs.Numbers.{part_of, taps_in, response_of, around_of}
 use Rattle.stored.specs.Longest.{max_delay_of}
 use Rattle.reader.specs.Queries.{filter_says, plain_says, number_says}
-use Rattle.loads.specs.declared.Loaded.{Loaded}
-use Rattle.loads.specs.declared.Loaded.TheVariants.{Ready}
 use Rattle.loads.specs.Load.{Work, Load, indexed, load_by, load_of}
 use Rattle.source.specs.Reader as source
 use Rattle.source.specs.Reader.{filter}
@@ -39,44 +37,49 @@ use Rattle.sofa.specs.declared.tree.SofaFound.{SofaFound}
 use Rattle.sofa.specs.declared.set.SofaLoaded.{SofaLoaded}
 use Rattle.sofa.specs.declared.set.SofaPart.{SofaPart}
 use Rattle.sofa.specs.Tree.{point}
+use Rattle.sofa.specs.Convert.{reason_of, place_of}
 use Rattle.sofa.specs.Set.{LoadedSet, located_as, loaded_as, part_as, around_as, longest_as, move_told, filter_told}
 use Rattle.sofa.proofs.set.sofa_load.Reads as load
 use Rattle.sofa.proofs.set.sofa_find.Reads as find
 use Rattle.sofa_laws.specs.Calls.{given_in, left_in, Finding}
 use Rattle.sofa_laws.specs.Host.{heard_by, PartHeard, HearsSource, LoadHeard}
 
--- ---- no line of the table has the number 0
+-- ---- no refusal has the number 0
 
-one_of : (b : Bool) (n p : ℕ) (v : Verdict) → 0 < n → (reason_of v ≡ 0 → v ≡ verdict.Fine) → reason_of (cond b (verdict.Refused n p) v) ≡ 0 → cond b (verdict.Refused n p) v ≡ verdict.Fine
-one_of true n p v h f e = absurd (omega arith)
-one_of false n p v h f e = f e
+pub above_zero : (refusal : Refusal) → 0 < number_of refusal
+above_zero (UnknownKind kind) = omega arith
+above_zero BadSizes = omega arith
+above_zero ShortLists = omega arith
+above_zero (BadPosition index) = omega arith
+above_zero BadAngleStep = omega arith
+above_zero BadRadiusStep = omega arith
+above_zero BadRate = omega arith
+above_zero (BadValue argument) = omega arith
+above_zero (NoMeasurement number) = omega arith
+above_zero BadLink = omega arith
 
-pub unrefused : (cs : List Check) → Each (λ (c : Check). 0 < c.number) cs → reason_of (verdict_of cs) ≡ 0 → verdict_of cs ≡ verdict.Fine
-unfolding verdict_of
-unrefused [] h e = refl
-unrefused (c ∷ cs) h e = one_of c.met c.number c.place (verdict_of cs) h.0 (unrefused cs h.1) e
-
-fine_if : (g : Given) → reason_of (judged g) ≡ 0 → judged g ≡ verdict.Fine
-fine_if g e = unrefused _ (omega arith, (omega arith, (omega arith, (omega arith, (omega arith, (omega arith, (omega arith, tt))))))) e
+pub unrefused : (v : Result ⊤ Refusal) → reason_of v ≡ 0 → v ≡ Ok tt
+unrefused (Ok fine) e = refl
+unrefused (Err refusal) e = absurd (omega (arith, e, above_zero refusal))
 
 -- ---- the answer's reason and place are the verdict's
 
-reason_is : (v : Verdict) (l : Load) (d : Work) (look : Lookup) → l.answer ≡ Ready look → (loaded_as (load_by v l d).answer).reason ≡ reason_of v
+reason_is : (v : Result ⊤ Refusal) (l : Load) (d : Work) (look : Lookup) → l.answer ≡ Ok look → (loaded_as (load_by v l d).answer).reason ≡ reason_of v
 unfolding load_by
-reason_is verdict.Fine l d look e = ap (λ (a : Loaded). (loaded_as a).reason) e
-reason_is (verdict.Refused n p) l d look e = refl
+reason_is (Ok fine) l d look e = ap (λ (a : Result Lookup Refusal). (loaded_as a).reason) e
+reason_is (Err refusal) l d look e = refl
 
-place_is : (v : Verdict) (l : Load) (d : Work) (look : Lookup) → l.answer ≡ Ready look → (loaded_as (load_by v l d).answer).place ≡ place_of v
+place_is : (v : Result ⊤ Refusal) (l : Load) (d : Work) (look : Lookup) → l.answer ≡ Ok look → (loaded_as (load_by v l d).answer).place ≡ place_of v
 unfolding load_by
-place_is verdict.Fine l d look e = ap (λ (a : Loaded). (loaded_as a).place) e
-place_is (verdict.Refused n p) l d look e = refl
+place_is (Ok fine) l d look e = ap (λ (a : Result Lookup Refusal). (loaded_as a).place) e
+place_is (Err refusal) l d look e = refl
 
-left_as : (v : Verdict) (l : Load) (d : Work) → (reason_of v ≡ 0 → ⊥) → (load_by v l d).work ≡ d
+left_as : (v : Result ⊤ Refusal) (l : Load) (d : Work) → (reason_of v ≡ 0 → ⊥) → (load_by v l d).work ≡ d
 unfolding load_by
-left_as verdict.Fine l d h = absurd (h refl)
-left_as (verdict.Refused n p) l d h = refl
+left_as (Ok fine) l d h = absurd (h refl)
+left_as (Err refusal) l d h = refl
 
-ready : (g : Given) → (done g).answer ≡ Ready (look (set_in g (done g).work))
+ready : (g : Given) → (done g).answer ≡ Ok (look (set_in g (done g).work))
 unfolding indexed
 ready g = refl
 
@@ -86,16 +89,16 @@ heard_as : (way : Way) (f : source.Filter) → filter_told (told way f) ≡ hear
 heard_as exactly f = refl
 heard_as (blending l) f = refl
 
-part_heard : (xs : List Float) (s n : ℕ) (taps : List Float) (t : Part) (p : SofaPart) → t ≡ Taps s n → s + n ≤ length xs → taps_in t xs ≡ taps → p ≡ part_as t → PartHeard xs n taps p
+part_heard : (xs : List Float) (s n : ℕ) (taps : List Float) (t : Result Taps Refusal) (p : SofaPart) → t ≡ Ok (record { start = s; count = n }) → s + n ≤ length xs → taps_in t xs ≡ taps → p ≡ part_as t → PartHeard xs n taps p
 unfolding taps_in
 part_heard xs s n taps t p et h held e =
-    subst (PartHeard xs n taps) (sym (e ∙ ap part_as et)) (record { reason = refl; place = refl; count = refl; within = h; held = ap (λ (u : Part). taps_in u xs) (sym et) ∙ held })
+    subst (PartHeard xs n taps) (sym (e ∙ ap part_as et)) (record { reason = refl; place = refl; count = refl; within = h; held = ap (λ (u : Result Taps Refusal). taps_in u xs) (sym et) ∙ held })
 
 -- of a measurement of a loaded set, by its ear
-module _ (g : Given) (fine : judged g ≡ verdict.Fine) (k : ℕ) (h : k < g.sizes.m) where
-  taps_of : (ear : ℕ) → part_of g.sizes (length g.responses) k ear ≡ Taps (start_of g.sizes.r g.sizes.n ear k) g.sizes.n
+module _ (g : Given) (fine : judged g ≡ Ok tt) (k : ℕ) (h : k < g.sizes.m) where
+  taps_of : (ear : ℕ) → part_of g.sizes (length g.responses) k ear ≡ Ok (record { start = start_of g.sizes.r g.sizes.n ear k; count = g.sizes.n })
   unfolding part_of
-  taps_of ear = ap (λ (v : Verdict). part_by v (start_of g.sizes.r g.sizes.n ear k) g.sizes.n) (response_fine g fine k h)
+  taps_of ear = ap (λ (v : Result ⊤ Refusal). result_and v (Ok (record { start = start_of g.sizes.r g.sizes.n ear k; count = g.sizes.n }))) (response_fine g fine k h)
 
   ear_heard : (ear : ℕ) (taps : List Float) (p : SofaPart) → ear ≤ 1 → response_of g.sizes g.responses k ear ≡ taps → p ≡ part_as (part_of g.sizes (length g.responses) k ear)
       → PartHeard g.responses g.sizes.n taps p
@@ -133,14 +136,14 @@ module _ (κs : _) (a : _) (r : SofaLoaded) (e : _) (says : load.Post κs a r e)
 
   -- WITH REASON 0 the host has the source's set
   module _ (told-fine : r.reason ≡ 0) where
-    fine : judged g ≡ verdict.Fine
-    fine = fine_if g (sym reason_told ∙ told-fine)
+    fine : judged g ≡ Ok tt
+    fine = unrefused (judged g) (sym reason_told ∙ told-fine)
 
-    answers_ready : (loaded g).answer ≡ Ready r.lookup
+    answers_ready : (loaded g).answer ≡ Ok r.lookup
     answers_ready =
         let yes = accepted g fine in
-        let same = ap (λ (x : SofaLoaded). x.lookup) answer_is ∙ ap (λ (l : Loaded). (loaded_as l).lookup) yes in
-        yes ∙ ap Ready (sym same)
+        let same = ap (λ (x : SofaLoaded). x.lookup) answer_is ∙ ap (λ (l : Result Lookup Refusal). (loaded_as l).lookup) yes in
+        yes ∙ ap Ok (sym same)
 
     pub loads_as_source : LoadsAsSource g w r.lookup
     loads_as_source = subst (λ (v : Work). LoadsAsSource g v r.lookup) (sym lists_are) (from_load g r.lookup answers_ready)
@@ -190,7 +193,7 @@ module _ (κs : _) (a : _) (r : SofaLoaded) (e : _) (says : load.Post κs a r e)
   heard = record {
     reason = reason_told;
     place = place_told;
-    in_domain = λ D. ap (λ (x : SofaLoaded). x.reason) answer_is ∙ ap (λ (l : Loaded). (loaded_as l).reason) (accepts g D);
+    in_domain = λ D. ap (λ (x : SofaLoaded). x.reason) answer_is ∙ ap (λ (l : Result Lookup Refusal). (loaded_as l).reason) (accepts g D);
     hears = hears;
     keeps = keeps;
   }

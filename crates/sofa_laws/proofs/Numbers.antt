@@ -12,17 +12,16 @@ use Rattle.root.proofs.Nearest.{root_of_rounded}
 use Rattle.root.proofs.Laws.{rounded_unique}
 use Rattle.sines.specs.Sines.{in_range, sine_steps, cosine_steps}
 use Rattle.angles.specs.Arc.{arctan_steps}
-use Rattle.angles.specs.declared.AngleAnswer.{AngleAnswer}
-use Rattle.angles.specs.declared.AngleAnswer.TheVariants.{Value, Refused}
+use Rattle.std.specs.Prelude.{⊤, Result, Ok, Err}
+use Rattle.refusals.specs.declared.Refusal.{Refusal}
+use Rattle.refusals.specs.declared.Refusal.TheVariants.{BadValue}
 use Rattle.angles.specs.Says.{sine_says, cosine_says, arctan_says}
 use Rattle.angle_laws.specs.Angle.{Ratio, close_to}
 use Rattle.angle_laws.specs.Asked.{Arctan}
 use Rattle.angle_laws.proofs.Near.{sine_near, cosine_near}
 use Rattle.angle_laws.proofs.Zero.{arctan_good}
-use Rattle.limits.specs.declared.Verdict.{Verdict}
-use Rattle.limits.specs.declared.Verdict.TheVariants as verdict
-use Rattle.limits.specs.Refusals.{reason_of, place_of, verdict_of, triplets, value_lines}
-use Rattle.limits.proofs.Lines.{done, more, unmet→fine}
+use Rattle.limits.specs.Refusals.{verdict_of, triplets, value_lines}
+use Rattle.limits.proofs.Lines.{done, more, unmet→ok}
 use Rattle.coords.specs.Arrays.{Converted, by_triplets, turned, converted_as, kept_or, convert_of}
 use Rattle.source.specs.Coords.{convert_array_to_spherical, convert_array_to_cartesian}
 use Rattle.source_laws.specs.Drawn.{ported}
@@ -31,7 +30,7 @@ use Rattle.load_laws.proofs.Domain.{values_allowed}
 use Rattle.sofa.specs.declared.SofaValue.{SofaValue}
 use Rattle.sofa.specs.declared.convert.SofaRefusal.{SofaRefusal}
 use Rattle.sofa.specs.Border.{value_as}
-use Rattle.sofa.specs.Convert.{Turned, turned_by, turn_says}
+use Rattle.sofa.specs.Convert.{reason_of, place_of, Turned, turned_by, turn_says}
 use Rattle.sofa_laws.specs.Numbers.{RootHeard, not_allowed, NearHeard, ArctangentHeard, TurnHeard, NumbersHeard}
 use Rattle.sofa_laws.proofs.Host.{unrefused}
 
@@ -51,8 +50,8 @@ root_heard x r says fit = subst (RootHeard x) (sym says) (record {
 
 -- ---- sine, cosine, arctangent
 
-abbrev say_by : Bool → Float → ℕ → AngleAnswer
-say_by b v place = cond b (Value v) (Refused 7 place)
+abbrev say_by : Bool → Float → ℕ → Result Float Refusal
+say_by b v place = cond b (Ok v) (Err (BadValue place))
 
 value_is : (b : Bool) (x : Float) (v : SofaValue) (place : ℕ) → v ≡ value_as (say_by b x place) → T b → v ≡ record { reason = 0; place = 0; value = x }
 value_is true x v place e h = e
@@ -73,24 +72,24 @@ unfolding arctan_says
 arctangent_heard y x v says = record {
   told = λ h. ap (λ (u : SofaValue). u.reason) (is (finite y) (finite x) says h);
   asked = λ h. subst (λ (u : SofaValue). Arctan y x u.value) (sym (is (finite y) (finite x) says h)) (arctan_good y x h);
-  refused_y = λ h. says ∙ ap (λ (b : Bool). value_as (cond b (say_by (finite x) (arctan_steps y x) 1) (Refused 7 0))) h;
-  refused_x = λ h k. says ∙ ap (λ (b : Bool). value_as (cond b (say_by (finite x) (arctan_steps y x) 1) (Refused 7 0))) h ∙ ap (λ (b : Bool). value_as (say_by b (arctan_steps y x) 1)) k;
+  refused_y = λ h. says ∙ ap (λ (b : Bool). value_as (cond b (say_by (finite x) (arctan_steps y x) 1) (Err (BadValue 0)))) h;
+  refused_x = λ h k. says ∙ ap (λ (b : Bool). value_as (cond b (say_by (finite x) (arctan_steps y x) 1) (Err (BadValue 0)))) h ∙ ap (λ (b : Bool). value_as (say_by b (arctan_steps y x) 1)) k;
 }
   where
-    is : (b c : Bool) → v ≡ value_as (cond b (say_by c (arctan_steps y x) 1) (Refused 7 0)) → T (b && c) → v ≡ record { reason = 0; place = 0; value = arctan_steps y x }
+    is : (b c : Bool) → v ≡ value_as (cond b (say_by c (arctan_steps y x) 1) (Err (BadValue 0))) → T (b && c) → v ≡ record { reason = 0; place = 0; value = arctan_steps y x }
     is true true e h = e
     is true false e h = absurd h
     is false c e h = absurd h
 
 -- ---- conversions
 
-kept_list : (v : Verdict) (old new : List Float) → (reason_of v ≡ 0 → ⊥) → kept_or v old new ≡ old
+kept_list : (v : Result ⊤ Refusal) (old new : List Float) → (reason_of v ≡ 0 → ⊥) → kept_or v old new ≡ old
 unfolding kept_or
-kept_list verdict.Fine old new h = absurd (h refl)
-kept_list (verdict.Refused n p) old new h = refl
+kept_list (Ok fine) old new h = absurd (h refl)
+kept_list (Err refusal) old new h = refl
 
 module _ (kind : ℕ) (xs ys source : List Float) (r : SofaRefusal) (says : turned_by r ys ≡ turn_says kind xs) where
-  abbrev v : Verdict
+  abbrev v : Result ⊤ Refusal
   v = verdict_of (value_lines kind xs)
 
   answer_is : (convert_of kind xs).answer ≡ v
@@ -103,12 +102,12 @@ module _ (kind : ℕ) (xs ys source : List Float) (r : SofaRefusal) (says : turn
   list_is : ys ≡ (convert_of kind xs).values
   list_is = ap (λ (t : Turned). t.values) says
 
-  turn_heard : kind < 2 → (v ≡ verdict.Fine → convert_of kind xs ≡ converted_as verdict.Fine source) → TurnHeard kind xs ys source r
+  turn_heard : kind < 2 → (v ≡ Ok tt → convert_of kind xs ≡ converted_as (Ok tt) source) → TurnHeard kind xs ys source r
   turn_heard known same = record {
     reason = reason_told;
     place = ap (λ (t : Turned). t.out.place) says ∙ ap place_of answer_is;
-    in_domain = λ h. reason_told ∙ ap reason_of (unmet→fine _ (more (values_allowed kind xs (triplets xs) known (omega arith) h) done));
-    turned = λ e. list_is ∙ ap (λ (c : Converted). c.values) (same (unrefused (value_lines kind xs) (omega arith, tt) (sym reason_told ∙ e)));
+    in_domain = λ h. reason_told ∙ ap reason_of (unmet→ok _ (more (values_allowed kind xs (triplets xs) known (omega arith) h) done));
+    turned = λ e. list_is ∙ ap (λ (c : Converted). c.values) (same (unrefused v (sym reason_told ∙ e)));
     keeps = λ h. list_is ∙ (unfold convert_of in kept_list v xs (by_triplets (turned kind) xs) (λ e. h (reason_told ∙ e)));
   }
 

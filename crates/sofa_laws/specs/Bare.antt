@@ -1,12 +1,11 @@
 -- WHAT A HOST HEARS OF THE BARE TREE: it inserts measurements one after the other by `sofa_tree_insert`, then asks by `sofa_tree_nearest`; each call by its own
 -- contract (`Post`; specs/Calls.antt says how a call's arguments stand). Definitions only; the theorems `bare_heard` and `demand3_heard` are in proofs/Bare.antt.
-use Rattle.std.specs.Prelude.{◌≡◌, cond, List, [], ◌∷◌, ℕ, suc, eqb, length}
+use Rattle.std.specs.Prelude.{◌≡◌, cond, List, [], ◌∷◌, ℕ, suc, eqb, length, Option, None, Some}
 use borrow.Fn.World.{ArgsD}
 use denote.Triple.Clauses.{AtExit}
 use Rattle.points.specs.declared.Point3.{Point3}
 use Rattle.kdtree.specs.Insert.{Lists, lists_of}
 use Rattle.kdtree_laws.specs.Demand3.{Numbered, SomeNan, Bare, RoomFor, walk_names, Alone, Demand3}
-use Rattle.source.specs.Rust.{Option, None, Some}
 use Rattle.source.specs.Kdtree as source
 use Rattle.source.specs.Kdtree.{KdTree, new_tree, nearest}
 use Rattle.source_laws.specs.Drawn.{flat}

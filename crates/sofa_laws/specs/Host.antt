@@ -13,7 +13,6 @@ use Rattle.source.specs.Reader as source
 use Rattle.source.specs.Reader.{filled_or, filter, filter_nointerp, max_delay}
 use Rattle.source_laws.specs.Drawn.{entered}
 use Rattle.source_laws.specs.Way.{Way, exactly, blending, way_in}
-use Rattle.limits.specs.Refusals.{reason_of, place_of}
 use Rattle.load_laws.specs.Load.{Given, judged, LoadsAsSource}
 use Rattle.load_laws.specs.Domain.{Domain}
 use Rattle.load_laws.specs.Found.{FindsNearest}
@@ -23,6 +22,7 @@ use Rattle.sofa.specs.declared.set.SofaLoaded.{SofaLoaded}
 use Rattle.sofa.specs.declared.set.SofaFiltered.{SofaFiltered}
 use Rattle.sofa.specs.declared.set.SofaPart.{SofaPart}
 use Rattle.sofa.specs.declared.set.SofaNeighbors.{SofaNeighbors}
+use Rattle.sofa.specs.Convert.{reason_of, place_of}
 use Rattle.sofa.specs.Set.{moved_by, Filtered, filtered_by}
 use Rattle.sofa.proofs.set.sofa_find.Reads as find
 use Rattle.sofa.proofs.set.sofa_find_mut.Reads as find-mut

@@ -11,12 +11,13 @@ use Rattle.root.specs.Nearest.{Rounded}
 use Rattle.sines.specs.Sines.{in_range}
 use Rattle.angle_laws.specs.Angle.{Ratio, S, C, close_to}
 use Rattle.angle_laws.specs.Asked.{Arctan}
-use Rattle.limits.specs.Refusals.{reason_of, place_of, verdict_of, triplets, value_lines}
+use Rattle.limits.specs.Refusals.{verdict_of, triplets, value_lines}
 use Rattle.source.specs.Coords.{convert_array_to_spherical, convert_array_to_cartesian}
 use Rattle.source_laws.specs.Drawn.{ported}
 use Rattle.load_laws.specs.Domain.{Position}
 use Rattle.sofa.specs.declared.SofaValue.{SofaValue}
 use Rattle.sofa.specs.declared.convert.SofaRefusal.{SofaRefusal}
+use Rattle.sofa.specs.Convert.{reason_of, place_of}
 use Rattle.sofa.proofs.sofa_root.Reads as root
 use Rattle.sofa.proofs.sofa_sine.Reads as sine
 use Rattle.sofa.proofs.sofa_cosine.Reads as cosine

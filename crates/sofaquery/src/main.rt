@@ -10,18 +10,24 @@
 // Where the system fails to read or to write, nothing more is written, since the text then has no end to speak of, and one line on standard error says so.
 #![tactic(auto)]
 
-ghost use Rattle.std.specs.Prelude.{◌≤◌, ◌≡◌, true, length};
-ghost use Rattle.queries.specs.Sound.{Sound};
+ghost use Rattle.std.specs.Prelude.{◌≤◌, ◌≡◌, length, IsOk};
 ghost use Rattle.queries.specs.Machine.{start_run, Front};
-ghost use Rattle.sofaquery.specs.Calls.{Moved, here, start_held, start_went, goes_on, read_flow, after_read, write_flow, after_write, last_text, end_flow, not_taken, Came, Ends};
+ghost use Rattle.sofaquery.specs.Calls.{here, start_held, goes_on, read_flow, after_read, write_flow, after_write, last_text, end_flow, not_taken, Came, Ends};
 
-use queries::Run;
-use std::io::{Read, Stdin};
+use queries::{
+    BLOCK, Ears, LINE, Memory, NEIGHBOURS, POINTS, POSITIONS, Run, SAMPLES, SetLists, Store,
+    WorkLists,
+};
+use std::io;
+use std::io::{Read, Stdin, Stdout, Write};
 
-// What came of the last call of the system.
-#[derive(Clone, Copy)]
+const CHUNK: usize = 65536;
+
+// What came of the last call of the system: a named outcome of four.
+#[derive(Clone, Copy, Default)]
 pub enum Flow {
     // There may be more to read.
+    #[default]
     More,
     // The text has ended, or all is printed.
     Ended,
@@ -31,8 +37,8 @@ pub enum Flow {
     Unwritten,
 }
 
-// Between two calls: how far the machine is, which part of the chunk it has not read, and what came of the last call.
-#[derive(Clone, Copy)]
+// Between two calls: how far the machine is, which part of the chunk it has not read (places in it: memory is fixed), and what came of the last call.
+#[derive(Clone, Copy, Default)]
 pub struct Went {
     pub run: Run,
     pub at: usize,
@@ -40,249 +46,171 @@ pub struct Went {
     pub flow: Flow,
 }
 
-fn begin() -> Went
-    ensures { result ≡ start_went }
+fn goes_on(flow: Flow) -> bool
+    ensures { result ≡ goes_on flow }
 {
-    Went {
-        run: queries::begin(),
-        at: 0,
-        have: 0,
-        flow: Flow::More,
-    }
-}
-
-fn goes_on(went: Went) -> bool
-    ensures { result ≡ goes_on went.flow }
-{
-    let flow = went.flow;
-    match flow {
-        Flow::More => true,
-        Flow::Ended => false,
-        Flow::Unread => false,
-        Flow::Unwritten => false,
-    }
+    matches!(flow, Flow::More)
 }
 
 // By what a read answered: it failed, the text has ended, or bytes are there.
-fn read_flow(got: isize) -> Flow
+fn read_flow(got: io::Result<usize>) -> Flow
     ensures { result ≡ read_flow got }
 {
-    if got < 0 {
-        return Flow::Unread;
+    match got {
+        Ok(0) => Flow::Ended,
+        Ok(_) => Flow::More,
+        Err(_) => Flow::Unread,
     }
-    if got < 1 {
-        return Flow::Ended;
-    }
-    Flow::More
 }
 
-fn after_read(run: Run, got: isize, chunk: &[u8; 65536]) -> Went
+#[tactic(auto, unfolding(crate::specs::Calls::after_read))]
+fn after_read(run: Run, got: io::Result<usize>) -> Went
     ensures { result ≡ after_read run got }
 {
     Went {
-        run: run,
+        run,
         at: 0,
-        have: io::count(got, chunk),
+        have: got.unwrap_or(0),
         flow: read_flow(got),
     }
 }
 
 // By whether a write went well, and whether there is nothing left to do then.
-fn write_flow(ok: bool, done: bool) -> Flow
-    ensures { result ≡ write_flow ok done }
+fn write_flow(wrote: io::Result<()>, done: bool) -> Flow
+    ensures { result ≡ write_flow wrote done }
 {
-    if !ok {
-        return Flow::Unwritten;
+    match wrote {
+        Err(_) => Flow::Unwritten,
+        Ok(()) if done => Flow::Ended,
+        Ok(()) => Flow::More,
     }
-    if done {
-        return Flow::Ended;
-    }
-    Flow::More
 }
 
 // After a turn that came to a place of the chunk, and the write of what it said.
-fn after_write(run: Run, at: usize, have: usize, ok: bool) -> Went
-    ensures { result ≡ after_write run at have ok }
+#[tactic(auto, unfolding(crate::specs::Calls::after_write))]
+fn after_write(run: Run, at: usize, have: usize, wrote: io::Result<()>) -> Went
+    ensures { result ≡ after_write run at have wrote }
 {
-    let over = queries::is_over(run);
     Went {
-        run: run,
-        at: at,
-        have: have,
-        flow: write_flow(ok, (have <= at) & over),
+        run,
+        at,
+        have,
+        flow: write_flow(wrote, (have <= at) & run.phase.is_over()),
     }
 }
 
-// A read of standard input: -1 where it failed, else how many bytes it put at the front of the chunk.
-fn read(input: &mut Stdin, chunk: &mut [u8; 65536]) -> isize
-    ensures { Moved 65536 result }
-{
-    match input.read(chunk) {
-        Ok(n) => n as isize,
-        Err(_) => -1,
-    }
-}
-
-// Writes so many bytes at the front of out: whether that went well. Nothing to write goes well.
-fn write(out: &[u8], count: usize) -> bool
+// Writes so many bytes at the front of out. Nothing to write goes well.
+fn write(output: &mut Stdout, out: &[u8], count: usize) -> io::Result<()>
     requires { count ≤ length out.now }
-    ensures { count ≡ 0 → result ≡ true }
+    ensures { count ≡ 0 → IsOk result }
 {
     if count == 0 {
-        return true;
+        return Ok(());
     }
-    io::write_all(1, &out[..count])
+    output.write_all(&out[..count])
 }
 
 // Chunk after chunk, turn by turn.
-fn run(
-    input: &mut Stdin,
-    buf: &mut [u8; 40000],
-    positions: &mut [f32; 768],
-    responses: &mut [f32; 4096],
-    delays: &mut [f32; 4096],
-    left: &mut [u16; 256],
-    right: &mut [u16; 256],
-    neighbours: &mut [u16; 1536],
-    cartesian: &mut [f32; 768],
-    out_left: &mut [f32; 4096],
-    out_right: &mut [f32; 4096],
-    out: &mut [u8; 73848],
-) -> Went
-    requires { here start_run buf.old positions.old responses.old delays.old
-        left.old right.old neighbours.old cartesian.old
-        out_left.old out_right.old out.old
-        ≡ start_held }
-    ensures { Came (here result.run buf.new positions.new responses.new delays.new
-        left.new right.new neighbours.new cartesian.new
-        out_left.new out_right.new out.new) result }
+fn run(input: &mut Stdin, output: &mut Stdout, memory: &mut Memory) -> Went
+    requires { here start_run memory.old ≡ start_held }
+    ensures { Came (here result.run memory.new) result }
 {
-    let mut chunk = [0u8; 65536];
-    let mut went = begin();
-    // Nothing says that a text ends, and a proved loop must: it counts down from more calls than can come.
-    let mut calls = u64::MAX;
-    while calls > 0 && goes_on(went) {
-        calls -= 1;
-        let t = went.run;
+    let mut chunk = [0u8; CHUNK];
+    let mut went = Went::default();
+    // Nothing says that a text ends, and a proved loop must: these are more calls than can come.
+    for _ in 0..u64::MAX {
+        if !goes_on(went.flow) {
+            break;
+        }
         let at = went.at;
         let have = went.have;
         if at < have {
-            let told = queries::advance(
-                &chunk[..have],
-                at,
-                buf,
-                t,
-                positions,
-                responses,
-                delays,
-                left,
-                right,
-                neighbours,
-                cartesian,
-                out_left,
-                out_right,
-                out,
-            );
-            let ok = write(out, told.count);
-            went = after_write(told.run, told.next, have, ok);
+            let told = went.run.advance(&chunk[..have], at, memory);
+            let wrote = write(output, &memory.store.out, told.count);
+            went = after_write(told.run, told.next, have, wrote);
         } else {
-            let got = read(input, &mut chunk);
-            went = after_read(t, got, &chunk);
+            let got = input.read(&mut chunk);
+            went = after_read(went.run, got);
         }
     }
     went
 }
 
 // What is still to be written stands at the front of out then: how many bytes. Nothing, where something failed.
-fn last(went: Went, buf: &[u8; 40000], out: &mut [u8; 73848]) -> usize
-    requires { Sound went.run }
-    ensures { Front (last_text went buf.now) out.old out.new result }
+fn last(went: Went, memory: &mut Memory) -> usize
+    ensures { Front (last_text went memory.old.buf) memory.old.store.out memory.new.store.out result }
 {
-    let t = went.run;
-    let flow = went.flow;
-    match flow {
-        Flow::More => 0,
-        Flow::Ended => queries::finish(t, buf, out),
-        Flow::Unread => 0,
-        Flow::Unwritten => 0,
+    match went.flow {
+        Flow::Ended => went.run.finish(&memory.buf, &mut memory.store.out),
+        _ => 0,
     }
 }
 
 // By whether that was written.
-fn end_flow(flow: Flow, ok: bool) -> Flow
-    ensures { result ≡ end_flow flow ok }
+fn end_flow(flow: Flow, wrote: io::Result<()>) -> Flow
+    ensures { result ≡ end_flow flow wrote }
 {
     match flow {
-        Flow::More => Flow::More,
-        Flow::Ended => write_flow(ok, true),
-        Flow::Unread => Flow::Unread,
-        Flow::Unwritten => Flow::Unwritten,
+        Flow::Ended => write_flow(wrote, true),
+        _ => flow,
     }
 }
 
 // The text was not one of the form, or its load was refused: the run was over before the text was, or there was something left to print.
+#[tactic(auto, unfolding(crate::specs::Calls::not_taken))]
 fn not_taken(run: Run, count: usize) -> bool
     ensures { result ≡ not_taken run count }
 {
-    queries::is_over(run) | (0 < count)
+    run.phase.is_over() | (0 < count)
 }
 
 // Says on standard error what failed, and where nothing did that the text was not taken: bin/sofaquery makes an exit status of it, since a
 // program of the language has none.
-fn tell(flow: Flow, bad: bool) {
-    match flow {
-        Flow::More => {}
-        Flow::Ended => {
-            if bad {
-                io::write_all(2, b"sofaquery: a form error, or a refused load\n");
-            }
-        }
-        Flow::Unread => {
-            io::write_all(2, b"sofaquery: standard input could not be read\n");
-        }
-        Flow::Unwritten => {
-            io::write_all(2, b"sofaquery: standard output could not be written\n");
-        }
-    }
+fn tell(flow: Flow, bad: bool, rt: &impl Eprint) {
+    let said = match flow {
+        Flow::Ended if bad => "sofaquery: a form error, or a refused load",
+        Flow::Ended | Flow::More => return,
+        Flow::Unread => "sofaquery: standard input could not be read",
+        Flow::Unwritten => "sofaquery: standard output could not be written",
+    };
+    // There is nowhere to say that this failed.
+    let _ = eprintln!(rt; "{said}");
 }
 
-fn end(went: Went, buf: &[u8; 40000], out: &mut [u8; 73848])
-    requires { Ends went buf.now out.old }
+fn end(went: Went, output: &mut Stdout, memory: &mut Memory, rt: &impl Eprint)
+    requires { Ends went memory.old }
 {
-    let count = last(went, buf, out);
-    let ok = write(out, count);
-    let flow = went.flow;
-    let run = went.run;
-    let bad = not_taken(run, count);
-    tell(end_flow(flow, ok), bad);
+    let count = last(went, memory);
+    let wrote = write(output, &memory.store.out, count);
+    let bad = not_taken(went.run, count);
+    tell(end_flow(went.flow, wrote), bad, rt);
 }
 
 fn main(rt: HostRuntime) {
     let mut input = rt.stdin();
-    let mut buf = [0u8; 40000];
-    let mut positions = [0.0f32; 768];
-    let mut responses = [0.0f32; 4096];
-    let mut delays = [0.0f32; 4096];
-    let mut left = [0u16; 256];
-    let mut right = [0u16; 256];
-    let mut neighbours = [0u16; 1536];
-    let mut cartesian = [0.0f32; 768];
-    let mut out_left = [0.0f32; 4096];
-    let mut out_right = [0.0f32; 4096];
-    let mut out = [0u8; 73848];
-    let went = run(
-        &mut input,
-        &mut buf,
-        &mut positions,
-        &mut responses,
-        &mut delays,
-        &mut left,
-        &mut right,
-        &mut neighbours,
-        &mut cartesian,
-        &mut out_left,
-        &mut out_right,
-        &mut out,
-    );
-    end(went, &buf, &mut out);
+    let mut output = rt.stdout();
+    // Written out here, and not answered by a function, so that nothing copies it.
+    let mut memory = Memory {
+        buf: [0; LINE],
+        store: Store {
+            given: SetLists {
+                positions: [0.0; POSITIONS],
+                responses: [0.0; SAMPLES],
+                delays: [0.0; SAMPLES],
+            },
+            work: WorkLists {
+                left: [0; POINTS],
+                right: [0; POINTS],
+                neighbours: [0; NEIGHBOURS],
+                cartesian: [0.0; POSITIONS],
+            },
+            ears: Ears {
+                left: [0.0; SAMPLES],
+                right: [0.0; SAMPLES],
+            },
+            out: [0; BLOCK],
+        },
+    };
+    let went = run(&mut input, &mut output, &mut memory);
+    end(went, &mut output, &mut memory, &rt);
 }

@@ -1,5 +1,5 @@
 -- src/reader.rs: opening a set, filter, filter_nointerp, fill_filter and max_delay. Definitions only. A `Filter` that is filled is returned.
-use Rattle.std.specs.Prelude.{ℕ, ◌-◌, min, List, [], ◌∷◌, ◌++◌, length, take, replicate, Float}
+use Rattle.std.specs.Prelude.{ℕ, ◌-◌, min, List, [], ◌∷◌, ◌++◌, length, take, replicate, fold, Float}
 use Rattle.std.specs.Float.{binary32}
 use Rattle.std.specs.Float.Ieee.{div}
 use Rattle.floats.specs.Floats.{zero32, max_of}
@@ -74,9 +74,5 @@ unfoldable pub filter_nointerp : Sofar → Float → Float → Float → Filter 
 filter_nointerp sofar x y z f = nointerp_at sofar f (find sofar.lookup (array x y z))
 
 -- Sofar::max_delay: `.fold(0.0, f32::max)`
-unfoldable pub fold_max : Float → List Float → Float
-fold_max a [] = a
-fold_max a (x ∷ xs) = fold_max (max_of a x) xs
-
 unfoldable pub max_delay : Sofar → Float
-max_delay sofar = div binary32 (fold_max zero32 sofar.hrtf.data_delay) sofar.hrtf.sample_rate
+max_delay sofar = div binary32 (fold max_of zero32 sofar.hrtf.data_delay) sofar.hrtf.sample_rate

@@ -2,12 +2,9 @@
 use Rattle.std.specs.Prelude.{ℕ, zero, suc, List, from_bits, slice_index_or, Float}
 use Rattle.std.specs.Float.{nan, binary32}
 use Rattle.std.specs.Float.Ieee.{mul}
-use Rattle.points.specs.declared.Point3.{Point3}
-
 -- Option<A>
-pub data Option (A : Type 0) : Type 0 where
-  None : Option A
-  Some : A → Option A
+pub use Rattle.std.specs.Prelude.{Option, None, Some}
+use Rattle.points.specs.declared.Point3.{Point3}
 
 -- `sin`, `cos` and `atan2` of f32, which the platform's library decides: parameters
 pub record Angles : Type 0 where

@@ -4,12 +4,10 @@ use mathlib.Core.List.{List, [], ◌∷◌, ◌++◌}
 use Prim.Native.Nat.{ℕ, suc, ◌+◌}
 use native.Mathlib.Omega.{arith}
 use lib.ListN.{length}
+use Rattle.std.specs.Prelude.{Ok}
 use Rattle.points.specs.declared.Point3.{Point3}
+use Rattle.kdtree.specs.declared.Best.{Best}
 use Rattle.kdtree.specs.declared.BoundingBox.{BoundingBox}
-use Rattle.kdtree.specs.declared.Searched.{Searched}
-use Rattle.kdtree.specs.declared.Searched.TheVariants.{Found, Stopped}
-use Rattle.kdtree.specs.declared.Inserted.TheVariants.{Done}
-use Rattle.kdtree.specs.declared.Named.TheVariants.{Number}
 use Rattle.kdtree.specs.Geometry.{grown}
 use Rattle.kdtree.specs.Tree.{Tree, subtree}
 use Rattle.kdtree.specs.Search.{search}
@@ -25,7 +23,7 @@ use Rattle.source.specs.Rust.{Option, None, Some}
 use Rattle.source.specs.Kdtree as source
 use Rattle.source.specs.Kdtree.{Link, kd_node, none, some, extend, new_box, grown_by, KdTree, new_tree, insert, insert_rec, nearest_from, nearest}
 use Rattle.source_laws.specs.Drawn.{boxed, flat}
-use Rattle.source_laws.specs.Bare.{inserted, named, number_at, AnswersBox, SameTree}
+use Rattle.source_laws.specs.Bare.{inserted, number_at, AnswersBox, SameTree}
 use Rattle.source_laws.proofs.Shapes.{flat_new, flat_extend}
 use Rattle.source_laws.proofs.Insert.{boxed_same, insert_same}
 use Rattle.source_laws.proofs.Find.{Names, nearest_names}
@@ -102,7 +100,7 @@ module _ (t : Bare) (k : KdTree) (H : Held t k) (x : Numbered) (room : whole.Roo
 
 -- what an insert answered, where the trees then hold the same
 answers_box : (t : Bare) (x m : Numbered) (ms : List Numbered) (N : Next t x m ms) (k : KdTree) → Held (afterwards t x m ms N) k → AnswersBox k (insert_into t x).out
-answers_box t x m ms N k H = record { box = H.box; has_box = H.has_box; answers = ap (λ (s : Stored). s.out) N.is ∙ ap Done (sym H.corners) }
+answers_box t x m ms N k H = record { box = H.box; has_box = H.has_box; answers = ap (λ (s : Stored). s.out) N.is ∙ ap (λ (b : BoundingBox). Ok b) (sym H.corners) }
 
 room_next : (t : Bare) → RoomFor t.lists (suc t.count) → whole.Room t.lists t.count
 room_next t r = room_now t.lists t.count (suc t.count) r (omega arith)
@@ -144,10 +142,10 @@ module _ (t : Bare) (k : KdTree) (W : Whole t k) where
   long : whole.Readable t.lists t.count
   long = let r = W.room in record { most = r.most; positions = r.positions; left = r.left; right = r.right; numbers = r.numbers }
 
-  named_by : (o : Option ℕ) (w : Searched) → Names (number_at t) o w → number_of t.lists.numbers w ≡ named o
+  named_by : (o : Option ℕ) (w : Option Best) → Names (number_at t) o w → number_of t.lists.numbers w ≡ Ok o
   unfolding number_of
-  named_by (Some n) (Found s) e = ap (λ (i : ℕ). Number i) e
-  named_by (Some n) Stopped e = absurd e
+  named_by (Some n) (Some s) e = ap (λ (i : ℕ). Ok (Some i)) e
+  named_by (Some n) None e = absurd e
   named_by None w e = absurd e
 
   searched : (q : Point3) → search_in t q ≡ search t.count q tr (flat H.box) 0 (start_at_root t.lists.positions q)
@@ -161,14 +159,14 @@ module _ (t : Bare) (k : KdTree) (W : Whole t k) where
   unfolding nearest
   asked q = ap (λ (l : Link). nearest_from l k.bounds q) H.tree ∙ ap (λ (o : Option source.BoundingBox). nearest_from (boxed (number_at t) tr 0) o q) H.has_box
 
-  answers : (q : Point3) → nearest_in t q ≡ named (nearest k q)
+  answers : (q : Point3) → nearest_in t q ≡ Ok (nearest k q)
   answers q =
       sym (whole.read t.lists t.count t.bounds q long (λ e. let z = H.filled.some in omega arith) (search_in t q) refl)
       ∙ ap (number_of t.lists.numbers) (searched q)
       ∙ named_by (nearest_from (boxed (number_at t) tr 0) (Some H.box) q) (search t.count q tr (flat H.box) 0 (start_at_root t.lists.positions q))
       (nearest_names (number_at t) t.lists.left t.lists.right t.lists.positions t.count H.box q tr H.filled.rep
       (root_clean t.lists.left t.lists.right t.lists.positions t.count tr 0 H.filled.rep) H.filled.whole)
-      ∙ ap named (sym (asked q))
+      ∙ ap (λ (o : Option ℕ). Ok o) (sym (asked q))
 
 filled_whole : (a : Lists) (b : BoundingBox) (x : Numbered) (l : List Numbered) → RoomFor a (length (x ∷ l)) → Whole (fill (x ∷ l) (empty a b)) (inserted (x ∷ l) new_tree)
 unfolding fill inserted

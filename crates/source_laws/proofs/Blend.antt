@@ -1,6 +1,6 @@
 -- The plain filter and the blend: the port's outputs and delays are those that the source's fill_filter leaves. Assumes nothing.
 use mathlib.Core.Path.{◌≡◌, refl, ap, ◌∙◌}
-use mathlib.Core.Bool.{Bool, true, false, cond}
+use mathlib.Core.Bool.{Bool, true, cond}
 use mathlib.Core.List.{List, [], ◌∷◌, map}
 use Prim.Native.Nat.{ℕ, ◌+◌, ◌*◌, ◌<◌, ◌≤◌}
 use native.Mathlib.Omega.{arith}
@@ -9,10 +9,14 @@ use lib.ListN.{length, get_or, take, drop, replicate, length-drop, length-replic
 use lib.Seq.{get_or-take, get_or-drop, length-take-le}
 use lib.Ieee.{Float, nan, binary32, div}
 use borrow.Author.Tests.{le-ltb, le-leb}
+use Rattle.std.specs.Option.{option_map_or}
+use Rattle.std.specs.declared.option.Option as maybe
+use Rattle.std.specs.declared.option.Option.TheVariants as port
 use Rattle.floats.specs.Floats.{zero32}
 use Rattle.mix.specs.declared.Share.{Share}
 use Rattle.mix.specs.Mix.{plus_product, sums, start_of, tap_of, sample_of, out_of}
 use Rattle.mix.proofs.Laws as mix
+use Rattle.interpolate.specs.declared.Stride.{Stride}
 use Rattle.interpolate.specs.Blend.{part, stride_of, delay_at, plain_delay, blend_delay, FilterAnswer, extract_of, blend_of}
 use Rattle.source.specs.Rust.{None, Some}
 use Rattle.source.specs.Lookup.{Hrtf}
@@ -90,7 +94,7 @@ module _ (m r n : ℕ) (xs resp delays : List Float) (rate : Float) (small : m �
   -- ---- points added up
 
   abbrev delayed : ℕ → Float → List Share → Float
-  delayed e a ps = let s = stride_of (length delays) m r e in cond s.some (sums (delay_at delays s) a ps) a
+  delayed e a ps = option_map_or (λ z. sums (delay_at delays z) a ps) (stride_of (length delays) m r e) a
 
   -- what passes over the points ps leave of f
   record Passed (f g : InterpolatedFilter) (ps : List Share) : Type 0 where
@@ -152,25 +156,25 @@ module _ (m r n : ℕ) (xs resp delays : List Float) (rate : Float) (small : m �
       unfolding add_point
       delay_right_is = ap (λ (d : source.Delays). d.delay_right) next_delays
 
-    delayed_more : (e : ℕ) (a b : Float) (s : Share) (ps : List Share) → b ≡ (let z = stride_of (length delays) m r e in cond z.some (plus_product a s.weight (delay_at delays z s.number)) a)
+    delayed_more : (e : ℕ) (a b : Float) (s : Share) (ps : List Share) → (k : s.number < m) → b ≡ delay.plus_delay delays m r s.number k two e s.weight a
         → delayed e b ps ≡ delayed e a (s ∷ ps)
     unfolding sums
-    delayed_more e a b s ps h = ap (λ (x : Float). delayed e x ps) h ∙ go (stride_of (length delays) m r e).some
+    delayed_more e a b s ps k h = ap (λ (x : Float). delayed e x ps) h ∙ go (stride_of (length delays) m r e)
       where
-        F : ℕ → Float
-        F = delay_at delays (stride_of (length delays) m r e)
+        more : maybe.Option Stride → Float
+        more z = option_map_or (λ z. plus_product a s.weight (delay_at delays z s.number)) z a
 
-        go : (g : Bool) → cond g (sums F (cond g (plus_product a s.weight (F s.number)) a) ps) (cond g (plus_product a s.weight (F s.number)) a) ≡ cond g (sums F (plus_product a s.weight (F s.number)) ps) a
-        go true = refl
-        go false = refl
+        go : (z : maybe.Option Stride) → option_map_or (λ y. sums (delay_at delays y) (more z) ps) z (more z) ≡ option_map_or (λ z. sums (delay_at delays z) a (s ∷ ps)) z a
+        go port.None = refl
+        go (port.Some z) = refl
 
     delayed_none : (e : ℕ) (a : Float) → a ≡ delayed e a []
     unfolding sums
-    delayed_none e a = go (stride_of (length delays) m r e).some
+    delayed_none e a = go (stride_of (length delays) m r e)
       where
-        go : (g : Bool) → a ≡ cond g a a
-        go true = refl
-        go false = refl
+        go : (z : maybe.Option Stride) → a ≡ option_map_or (λ z. sums (delay_at delays z) a []) z a
+        go port.None = refl
+        go (port.Some z) = refl
 
     passes : (l : List Weighted) (f : InterpolatedFilter) → AllIn m l → length f.left ≡ n → length f.right ≡ n → Passed f (add_points set total f l) (map (part total) (listed l))
     unfolding add_points sums
@@ -191,8 +195,8 @@ module _ (m r n : ℕ) (xs resp delays : List Float) (rate : Float) (small : m �
           right_long = P.right_long;
           left = λ i q. P.left i q ∙ ap (λ (a : Float). sums (tap_of resp r n 0 i) a ps) (left_at f p h.0 fl fr i q);
           right = λ i q. P.right i q ∙ ap (λ (a : Float). sums (tap_of resp r n 1 i) a ps) (right_at f p h.0 fl fr i q);
-          delay_left_lem = P.delay_left_lem ∙ delayed_more 0 f.delay_left g.delay_left (part total (shared p)) ps (delay_left_is f p h.0 fl fr);
-          delay_right_lem = P.delay_right_lem ∙ delayed_more 1 f.delay_right g.delay_right (part total (shared p)) ps (delay_right_is f p h.0 fl fr);
+          delay_left_lem = P.delay_left_lem ∙ delayed_more 0 f.delay_left g.delay_left (part total (shared p)) ps h.0 (delay_left_is f p h.0 fl fr);
+          delay_right_lem = P.delay_right_lem ∙ delayed_more 1 f.delay_right g.delay_right (part total (shared p)) ps h.0 (delay_right_is f p h.0 fl fr);
         }
 
   -- ---- the blend of a list of points

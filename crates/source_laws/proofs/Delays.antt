@@ -9,11 +9,14 @@ use lib.Dec.{eqb, leb, ltb}
 use lib.ListN.{length, get_or}
 use lib.Ieee.{Float, nan, binary32, add, mul}
 use borrow.Author.Tests.{eqb-true, leb-true, lt-ltb}
+use Rattle.std.specs.Option.{option_map_or}
+use Rattle.std.specs.declared.option.Option as maybe
+use Rattle.std.specs.declared.option.Option.TheVariants as port
 use Rattle.floats.specs.Floats.{zero32}
 use Rattle.mix.specs.Mix.{plus_product}
 use Rattle.interpolate.specs.declared.Stride.{Stride}
 use Rattle.interpolate.specs.Blend as blend
-use Rattle.interpolate.specs.Blend.{nowhere, stride_of, delay_at, plain_delay}
+use Rattle.interpolate.specs.Blend.{stride_of, delay_at, plain_delay}
 use Rattle.source.specs.Rust.{index}
 use Rattle.source.specs.Interpolate as source
 use Rattle.source.specs.Interpolate.{value_or, extract_delays, add_delays}
@@ -29,8 +32,8 @@ module _ (delays : List Float) (m r k : ℕ) (hk : k < m) (hr : 2 ≤ r) where
   len = length delays
 
   -- the port's stride by its three tests
-  abbrev strided : ℕ → Bool → Bool → Bool → Stride
-  strided e a b c = cond a (blend.stride_at 1 0) (cond b (blend.stride_at r e) (cond c (blend.stride_at 0 e) nowhere))
+  abbrev strided : ℕ → Bool → Bool → Bool → maybe.Option Stride
+  strided e a b c = cond a (blend.stride_at 1 0) (cond b (blend.stride_at r e) (cond c (blend.stride_at 0 e) port.None))
 
   each : m * r ≤ len → k * r + 1 < len
   each g = omega (arith, suc-mul k r, mul-le-mul_right r hk)
@@ -60,8 +63,8 @@ module _ (delays : List Float) (m r k : ℕ) (hk : k < m) (hr : 2 ≤ r) where
           (cond c (record { delay_left = value_or delays 0 zero32; delay_right = value_or delays 1 (value_or delays 0 zero32) })
           (record { delay_left = zero32; delay_right = zero32 }))))
           (record {
-            delay_left = cond (strided 0 a b c).some (delay_at delays (strided 0 a b c) k) zero32;
-            delay_right = cond (strided 1 a b c).some (delay_at delays (strided 1 a b c) k) zero32;
+            delay_left = option_map_or (λ s. delay_at delays s k) (strided 0 a b c) zero32;
+            delay_right = option_map_or (λ s. delay_at delays s k) (strided 1 a b c) zero32;
           })
       go true b c ea eb ec =
           let z = eqb-true len m ea in
@@ -82,7 +85,7 @@ module _ (delays : List Float) (m r k : ℕ) (hk : k < m) (hr : 2 ≤ r) where
   -- ---- one weighed point more
 
   abbrev pub plus_delay : ℕ → Float → Float → Float
-  plus_delay e w a = let s = stride_of len m r e in cond s.some (plus_product a w (delay_at delays s k)) a
+  plus_delay e w a = option_map_or (λ s. plus_product a w (delay_at delays s k)) (stride_of len m r e) a
 
   pub add_same : (w l t : Float) → add_delays delays m r k w l t ≡ record { delay_left = plus_delay 0 w l; delay_right = plus_delay 1 w t }
   unfolding add_delays stride_of
@@ -100,8 +103,8 @@ module _ (delays : List Float) (m r k : ℕ) (hk : k < m) (hr : 2 ≤ r) where
           (cond b (cond (ltb (k * r + 1) len) (both (index delays (k * r)) (index delays (k * r + 1))) kept)
           (cond c (both (index delays 0) (value_or delays 1 (index delays 0))) kept)))
           (record {
-            delay_left = cond (strided 0 a b c).some (plus_product l w (delay_at delays (strided 0 a b c) k)) l;
-            delay_right = cond (strided 1 a b c).some (plus_product t w (delay_at delays (strided 1 a b c) k)) t;
+            delay_left = option_map_or (λ s. plus_product l w (delay_at delays s k)) (strided 0 a b c) l;
+            delay_right = option_map_or (λ s. plus_product t w (delay_at delays s k)) (strided 1 a b c) t;
           })
       go true b c ea eb ec = let u = sym (by_one nan) in λ i. record { delay_left = plus_product l w (u i); delay_right = plus_product t w (u i) }
       go false true c ea eb ec =

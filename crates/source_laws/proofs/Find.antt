@@ -6,8 +6,7 @@ use native.Mathlib.Omega.{arith}
 use lib.Ieee.{Float}
 use Rattle.points.specs.declared.Point3.{Point3}
 use Rattle.points.specs.Points.{point_at, dist_sq_of}
-use Rattle.kdtree.specs.declared.Searched.{Searched}
-use Rattle.kdtree.specs.declared.Searched.TheVariants.{Found, Stopped}
+use Rattle.kdtree.specs.declared.Best.{Best}
 use Rattle.kdtree.specs.Geometry.{next_axis}
 use Rattle.kdtree.specs.Tree.{Tree, gone, bad, node}
 use Rattle.kdtree.specs.Search.{search}
@@ -31,15 +30,15 @@ use Rattle.source_laws.proofs.Built.{measured_to, six_same}
 -- ---- nearest
 
 -- the source names the number of the place that the port's search found
-abbrev pub Names : (ℕ → ℕ) → Option ℕ → Searched → Type 0
-Names number (Some k) (Found s) = number s.place ≡ k
-Names number (Some k) Stopped = ⊥
+abbrev pub Names : (ℕ → ℕ) → Option ℕ → Option Best → Type 0
+Names number (Some k) (Some s) = number s.place ≡ k
+Names number (Some k) None = ⊥
 Names number None w = ⊥
 
 module _ (number : ℕ → ℕ) (left right : List ℕ) (xs : List Float) (count : ℕ) (b : source.BoundingBox) (q : Point3) where
-  matches_names : (k : source.Best) (v : ℕ) (w : Searched) → Matches number k v w → Names number (Some (data_of k.best)) w
-  matches_names k v (Found s) m = m.0.0
-  matches_names k v Stopped m = m
+  matches_names : (k : source.Best) (v : ℕ) (w : Option Best) → Matches number k v w → Names number (Some (data_of k.best)) w
+  matches_names k v (Some s) m = m.0.0
+  matches_names k v None m = m
 
   pub nearest_names : (t : Tree) → RepAt left right xs count t 0 → Clean t → size t ≡ count
       → Names number (nearest_from (boxed number t 0) (Some b) q) (search count q t (flat b) 0 (start_at_root xs q))

@@ -10,8 +10,8 @@ use Rattle.lists.specs.Over.{over, upto}
 use Rattle.lists.proofs.Laws.{length_over, length_upto}
 use Rattle.points.specs.declared.Point3.{Point3}
 use Rattle.points.specs.Points.{point_at}
-use Rattle.kdtree.specs.declared.Named.TheVariants.{Number}
-use Rattle.kdtree.specs.declared.Searched.TheVariants.{Found}
+use Rattle.std.specs.Prelude.{Result, Ok}
+use Rattle.refusals.specs.declared.Refusal.{Refusal}
 use Rattle.kdtree.specs.Geometry.{box_at}
 use Rattle.kdtree.specs.Tree.{subtree}
 use Rattle.kdtree.specs.Insert.{lists_of}
@@ -28,11 +28,11 @@ use Rattle.lookup_laws.proofs.Nearest.{length_placed}
 use Rattle.lookup_laws.specs.Loaded.{placed, placed_from, Room, filled_with}
 use Rattle.lookup_laws.proofs.Loaded as filled
 use Rattle.lookup_laws.proofs.Loaded.{itself, number_at_lem}
-use Rattle.source.specs.Rust.{Option, None, Some}
+use Rattle.source.specs.Rust.{Option, Some}
 use Rattle.source.specs.Kdtree.{KdTree, new_tree, insert, nearest}
 use Rattle.source.specs.Lookup.{measured, find}
 use Rattle.source_laws.specs.Drawn.{boxed}
-use Rattle.source_laws.specs.Bare.{inserted, named, number_at, SameTree}
+use Rattle.source_laws.specs.Bare.{inserted, number_at, SameTree}
 use Rattle.source_laws.proofs.Insert.{boxed_same}
 use Rattle.source_laws.proofs.Built.{measured_to}
 use Rattle.source_laws.proofs.Find.{clamp_same}
@@ -127,9 +127,8 @@ module _ (xs : List Float) (n : ℕ) (left right : List ℕ) (H : Holds xs n lef
       let y = r.right in
       record { most = r.most; positions = r.positions; left = omega arith; right = omega arith; numbers = omega arith }
 
-  only_some : (o : Option ℕ) (k : ℕ) → named o ≡ Number k → o ≡ Some k
-  only_some None k e = let z : ◌≡◌ {A = ℕ} 0 1 = cc in absurd (omega arith)
-  only_some (Some j) k e = let z : j ≡ k = cc in ap (λ (i : ℕ). Some i) z
+  only_some : (o : Option ℕ) (k : ℕ) → ◌≡◌ {A = Result (Option ℕ) Refusal} (Ok o) (Ok (Some k)) → o ≡ Some k
+  only_some o k e = cc
 
   module _ (q : Point3) where
     abbrev p : Point3
@@ -138,16 +137,16 @@ module _ (xs : List Float) (n : ℕ) (left right : List ℕ) (H : Holds xs n lef
     abbrev P : filled.Placed xs (suc n) H.before H.room (box_of xs (suc n)) p
     P = filled.found xs (suc n) H.before H.room (box_of xs (suc n)) p
 
-    place_is : place_found xs left right (suc n) (box_of xs (suc n)) p ≡ Found P.best
+    place_is : place_found xs left right (suc n) (box_of xs (suc n)) p ≡ Some P.best
     place_is =
         ap (λ (l : List ℕ). place_found xs l right (suc n) (box_of xs (suc n)) p) H.left_is
         ∙ ap (λ (l : List ℕ). place_found xs (over (linked xs (suc n)).left H.before.left) l (suc n) (box_of xs (suc n)) p) H.right_is ∙ P.is
 
     source_names : nearest (measured_to xs (suc n)).kdtree p ≡ Some P.best.place
     source_names = only_some (nearest (measured_to xs (suc n)).kdtree p) P.best.place
-        (ap (λ (k : KdTree). named (nearest k p)) (sym built_by) ∙ sym (is_source.names p)
+        (ap (λ (k : KdTree). Ok (nearest k p)) (sym built_by) ∙ sym (is_source.names p)
         ∙ sym (whole.found_number (lists_of xs left right numbers) (suc n) (box_of xs (suc n)) p readable (λ e. omega arith) (place_found xs left right (suc n) (box_of xs (suc n)) p) refl P.best place_is)
-        ∙ ap (λ (k : ℕ). Number k) (number_at_lem (suc n) P.best.place (replicate (suc n) 0) P.below))
+        ∙ ap (λ (k : ℕ). Ok (Some k)) (number_at_lem (suc n) P.best.place (replicate (suc n) 0) P.below))
 
     -- FIND ANSWERS WHAT THE SOURCE'S FINDS
     pub finds : Finds xs n left right q

@@ -8,14 +8,15 @@ use lib.Dec.{T, leb, ltb}
 use lib.ListN.{length, take}
 use lib.Ieee.{Float, nan, inf, fin, binary32, up, down, add, sum, div, neg, lt, round}
 use borrow.Author.Tests.{ne_eqb, ltb-false, le-ltb}
+use Rattle.std.specs.declared.option.Option as maybe
+use Rattle.std.specs.declared.option.Option.TheVariants as port
 use Rattle.floats.specs.Floats.{zero32, one32}
 use Rattle.lists.specs.Each.{Each}
 use Rattle.floats.proofs.Sign.{nonneg}
 use Rattle.points.specs.declared.Point3.{Point3}
 use Rattle.points.specs.Points.{point_at, dist_sq_of}
 use Rattle.mix.specs.declared.Share.{Share}
-use Rattle.interpolate.specs.declared.Closest.{Closest}
-use Rattle.interpolate.specs.declared.Closest.TheVariants as port
+use Rattle.interpolate.specs.declared.Near.{Near}
 use Rattle.interpolate.specs.Blend as blend
 use Rattle.interpolate.specs.Blend.{tiny32, largest32, distance_of, entry_of, least, beside, closest_of, taken, pair_of, total_from}
 use Rattle.source.specs.Rust.{Option, None, Some, at, MAX}
@@ -63,53 +64,53 @@ module _ (xs : List Float) (m : ℕ) (small : m ≤ 16384) (long : 3 * m ≤ len
   -- ---- the closer of a pair
 
   -- nothing yet at the largest f32, or the same measurement
-  abbrev Twin : Option ℕ → Float → Closest → Type 0
-  Twin None x port.Nothing = x ≡ largest32
-  Twin None x (port.At n e) = ⊥
-  Twin (Some k) x port.Nothing = ⊥
-  Twin (Some k) x (port.At n e) = (k ≡ n) × (x ≡ e)
+  abbrev Twin : Option ℕ → Float → maybe.Option Near → Type 0
+  Twin None x port.None = x ≡ largest32
+  Twin None x (port.Some e) = ⊥
+  Twin (Some k) x port.None = ⊥
+  Twin (Some k) x (port.Some e) = (k ≡ e.number) × (x ≡ e.distance)
 
-  least_same : (o : Option ℕ) (x : Float) (c : Closest) → Twin o x c → x ≡ least c
-  least_same None x port.Nothing t = t
-  least_same None x (port.At n e) t = absurd t
-  least_same (Some k) x port.Nothing t = absurd t
-  least_same (Some k) x (port.At n e) t = t.1
+  least_same : (o : Option ℕ) (x : Float) (c : maybe.Option Near) → Twin o x c → x ≡ least c
+  least_same None x port.None t = t
+  least_same None x (port.Some e) t = absurd t
+  least_same (Some k) x port.None t = absurd t
+  least_same (Some k) x (port.Some e) t = t.1
 
-  abbrev Same : Closer → Closest → Type 0
+  abbrev Same : Closer → maybe.Option Near → Type 0
   Same b c = Twin b.best_idx b.best_dist c
 
-  wins : (k : ℕ) (b : Closer) (c : Closest) → Same b c → Same (cond (lt (d k) b.best_dist) (record { best_idx = Some k; best_dist = d k }) b) (blend.closer_of d c k)
+  wins : (k : ℕ) (b : Closer) (c : maybe.Option Near) → Same b c → Same (cond (lt (d k) b.best_dist) (record { best_idx = Some k; best_dist = d k }) b) (blend.closer_of d c k)
   unfolding blend.closer_of
-  wins k b c t = subst (λ (x : Float). Same (cond (lt (d k) x) won b) (cond (lt (d k) (least c)) (port.At k (d k)) c)) (sym (least_same b.best_idx b.best_dist c t)) (go (lt (d k) (least c)))
+  wins k b c t = subst (λ (x : Float). Same (cond (lt (d k) x) won b) (cond (lt (d k) (least c)) (port.Some (blend.near_at k (d k))) c)) (sym (least_same b.best_idx b.best_dist c t)) (go (lt (d k) (least c)))
     where
       won : Closer
       won = record { best_idx = Some k; best_dist = d k }
 
-      go : (g : Bool) → Same (cond g won b) (cond g (port.At k (d k)) c)
+      go : (g : Bool) → Same (cond g won b) (cond g (port.Some (blend.near_at k (d k))) c)
       go true = (refl, refl)
       go false = t
 
-  closer_same : (o : Option ℕ) (b : Closer) (c : Closest) → InSet m o → Same b c → Same (closer q sp 3 b o) (beside d c (entry_of (entered o)))
+  closer_same : (o : Option ℕ) (b : Closer) (c : maybe.Option Near) → InSet m o → Same b c → Same (closer q sp 3 b o) (beside d c (entry_of (entered o)))
   unfolding closer entry_of entered
   closer_same None b c h t = t
   closer_same (Some k) b c h t =
       rw (inside xs m k long h) (rw (dist_here k h) (rw (ne_eqb k 65535 (λ e. omega arith)) (wins k b c t)))
 
   -- what is pushed
-  pushed_same : (l : List Weighted) (o : Option ℕ) (x : Float) (c : Closest) → Twin o x c → listed (pushed l o x) ≡ listed l ++ taken c
+  pushed_same : (l : List Weighted) (o : Option ℕ) (x : Float) (c : maybe.Option Near) → Twin o x c → listed (pushed l o x) ≡ listed l ++ taken c
   unfolding pushed
-  pushed_same l None x port.Nothing t = sym (append-nil (listed l))
-  pushed_same l None x (port.At n e) t = absurd t
-  pushed_same l (Some k) x port.Nothing t = absurd t
-  pushed_same l (Some k) x (port.At n e) t = rw (t.0, t.1) (if_listed (lt tiny32 e) l (weighed n e))
+  pushed_same l None x port.None t = sym (append-nil (listed l))
+  pushed_same l None x (port.Some e) t = absurd t
+  pushed_same l (Some k) x port.None t = absurd t
+  pushed_same l (Some k) x (port.Some e) t = rw (t.0, t.1) (if_listed (lt tiny32 e.distance) l (weighed e.number e.distance))
 
   pub pair_same : (l : List Weighted) (a b : Option ℕ) → InSet m a → InSet m b → listed (add_closer_neighbor l a b q sp 3) ≡ listed l ++ pair_of d (entered a) (entered b)
   unfolding add_closer_neighbor closest_of
   pair_same l a b ha hb =
       let none : Closer = record { best_idx = None; best_dist = MAX } in
-      let first = beside d port.Nothing (entry_of (entered a)) in
+      let first = beside d port.None (entry_of (entered a)) in
       let z = closer q sp 3 (closer q sp 3 none a) b in
-      pushed_same l z.best_idx z.best_dist (beside d first (entry_of (entered b))) (closer_same b (closer q sp 3 none a) first hb (closer_same a none port.Nothing ha refl))
+      pushed_same l z.best_idx z.best_dist (beside d first (entry_of (entered b))) (closer_same b (closer q sp 3 none a) first hb (closer_same a none port.None ha refl))
 
 -- ---- the points are measurements of the set
 

@@ -7,8 +7,7 @@ use lib.Ieee.{Float, lt}
 use Rattle.points.specs.declared.Point3.{Point3}
 use Rattle.points.specs.Points.{dist_sq_of}
 use Rattle.kdtree.specs.declared.Best.{Best}
-use Rattle.kdtree.specs.declared.Searched.{Searched}
-use Rattle.kdtree.specs.declared.Searched.TheVariants.{Found, Stopped}
+use Rattle.std.specs.Prelude.{Option, None, Some}
 use Rattle.kdtree.specs.Geometry.{coord_of, box_dist_sq, with_min, with_max, next_axis, left_first}
 use Rattle.kdtree.specs.Tree.{Tree, gone, bad, node}
 use Rattle.kdtree.specs.Search.{search, improve, visited, farther, after_near}
@@ -57,13 +56,13 @@ module _ (number : ℕ → ℕ) where
   Tied s b = (number s.place ≡ data_of b.best) × (s.dist ≡ b.best_dist_sq)
 
   -- not stopped, with at most v visits
-  abbrev pub Matches : source.Best → ℕ → Searched → Type 0
-  Matches b v (Found r) = Tied r b × (r.visits ≤ v)
-  Matches b v Stopped = ⊥
+  abbrev pub Matches : source.Best → ℕ → Option Best → Type 0
+  Matches b v (Some r) = Tied r b × (r.visits ≤ v)
+  Matches b v None = ⊥
 
-  matches_le : (b b' : source.Best) (v v' : ℕ) (w : Searched) → b ≡ b' → v ≤ v' → Matches b v w → Matches b' v' w
-  matches_le b b' v v' (Found r) e h m = (subst (Tied r) e m.0, (let z = m.1 in omega arith))
-  matches_le b b' v v' Stopped e h m = m
+  matches_le : (b b' : source.Best) (v v' : ℕ) (w : Option Best) → b ≡ b' → v ≤ v' → Matches b v w → Matches b' v' w
+  matches_le b b' v v' (Some r) e h m = (subst (Tied r) e m.0, (let z = m.1 in omega arith))
+  matches_le b b' v v' None e h m = m
 
   module _ (M : ℕ) (q : Point3) where
     -- the node itself
@@ -89,10 +88,10 @@ module _ (number : ℕ → ℕ) where
     far_matches bad axis rect s b c h m = c
     far_matches (node n p l r) axis rect s b c h m =
         rw (box_dist rect q)
-        (subst (λ (d : Float). Matches (cond (lt (box_dist_sq (flat rect) q) d) k b) v (cond (lt (box_dist_sq (flat rect) q) s.dist) w (Found s))) h.1
+        (subst (λ (d : Float). Matches (cond (lt (box_dist_sq (flat rect) q) d) k b) v (cond (lt (box_dist_sq (flat rect) q) s.dist) w (Some s))) h.1
         (go (lt (box_dist_sq (flat rect) q) s.dist)))
       where
-        w : Searched
+        w : Option Best
         w = search M q (node n p l r) (flat rect) axis s
 
         k : source.Best
@@ -101,15 +100,15 @@ module _ (number : ℕ → ℕ) where
         v : ℕ
         v = s.visits + suc (size l + size r)
 
-        go : (g : Bool) → Matches (cond g k b) v (cond g w (Found s))
+        go : (g : Bool) → Matches (cond g k b) v (cond g w (Some s))
         go true = m
         go false = (h, omega arith)
 
-    near_then : (w : Searched) (f : Best → Searched) (k : source.Best) (g : source.Best) (u v : ℕ) → Matches k u w
+    near_then : (w : Option Best) (f : Best → Option Best) (k : source.Best) (g : source.Best) (u v : ℕ) → Matches k u w
         → ((s : Best) → Tied s k → s.visits ≤ u → Matches g v (f s)) → Matches g v (after_near w f)
     unfolding after_near
-    near_then (Found s) f k g u v m h = h s m.0 m.1
-    near_then Stopped f k g u v m h = m
+    near_then (Some s) f k g u v m h = h s m.0 m.1
+    near_then None f k g u v m h = m
 
     abbrev Follows : Tree → ℕ → Type 0
     Follows t axis = (rect : source.BoundingBox) (s : Best) (b : source.Best) → s.visits + size t ≤ M → Tied s b

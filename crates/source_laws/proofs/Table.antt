@@ -6,13 +6,13 @@ use Prim.Native.Nat.{ℕ, zero, suc, ◌+◌, ◌*◌, ◌/◌, ◌%◌, ◌<◌
 use native.Mathlib.Omega.{arith}
 use lib.ListN.{length, take}
 use lib.Ieee.{Float, neg}
+use Rattle.std.specs.Prelude.{Ok}
 use Rattle.floats.specs.Floats.{zero32, abs_of}
 use Rattle.lists.specs.Over.{over, upto}
 use Rattle.points.specs.declared.Point3.{Point3}
 use Rattle.points.specs.Points.{point_at}
 use Rattle.coords.specs.declared.Spherical.{Spherical}
 use Rattle.coords.specs.Coords.{spherical_of}
-use Rattle.limits.specs.declared.Verdict.TheVariants as verdict
 use Rattle.limits.specs.Allowed.{angle_step_ok}
 use Rattle.lookup.specs.Build.{lookup_of}
 use Rattle.neighbors.specs.declared.Reached.{Reached}
@@ -99,7 +99,7 @@ module _ (xs : List Float) (n : ℕ) (small : suc n ≤ 16384) (left right : Lis
 
   -- THE WHOLE TABLE: no entry refuses, and the 6m entries are the source's
   pub table_same : (d : List ℕ) → 6 * suc n ≤ length d
-      → table_of (lookup_of xs (suc n)) (suc n) xs left right angle radius d ≡ tabled_as verdict.Fine (over (upto entry_at (6 * suc n)) d)
+      → table_of (lookup_of xs (suc n)) (suc n) xs left right angle radius d ≡ tabled_as (Ok tt) (over (upto entry_at (6 * suc n)) d)
   unfolding table_of
   table_same d l = all_answered (table_entry (lookup_of xs (suc n)) (suc n) xs left right angle radius) entry_at d (6 * suc n) (λ k b. entry_same k) l
 

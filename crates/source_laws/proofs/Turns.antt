@@ -3,9 +3,9 @@ use mathlib.Core.Path.{◌≡◌, refl, sym, ap, ◌∙◌}
 use mathlib.Core.List.{List, [], ◌∷◌}
 use Prim.Native.Nat.{ℕ}
 use lib.Ieee.{Float}
+use Rattle.std.specs.Prelude.{⊤, Result, Ok}
+use Rattle.refusals.specs.declared.Refusal.{Refusal}
 use Rattle.points.specs.declared.Point3.{Point3}
-use Rattle.limits.specs.declared.Verdict.{Verdict}
-use Rattle.limits.specs.declared.Verdict.TheVariants.{Fine}
 use Rattle.limits.specs.Refusals.{verdict_of, value_lines}
 use Rattle.coords.specs.declared.Spherical.{Spherical}
 use Rattle.coords.specs.Coords.{turn_of, along_of, cartesian_of, radius_of, spherical_of}
@@ -50,9 +50,9 @@ to_cartesian (a ∷ b ∷ c ∷ rest) =
     ∙ ap (λ (l : List Float). let p = spherical_to_cartesian ported (array a b c) in p.x ∷ p.y ∷ p.z ∷ l) (to_cartesian rest)
 
 -- where nothing is refused
-allowed : (kind : ℕ) (xs ys : List Float) → by_triplets (turned kind) xs ≡ ys → verdict_of (value_lines kind xs) ≡ Fine → convert_of kind xs ≡ converted_as Fine ys
+allowed : (kind : ℕ) (xs ys : List Float) → by_triplets (turned kind) xs ≡ ys → verdict_of (value_lines kind xs) ≡ Ok tt → convert_of kind xs ≡ converted_as (Ok tt) ys
 unfolding convert_of kept_or
-allowed kind xs ys e fine = ap (λ (v : Verdict). converted_as v (kept_or v xs (by_triplets (turned kind) xs))) fine ∙ ap (converted_as Fine) e
+allowed kind xs ys e fine = ap (λ (v : Result ⊤ Refusal). converted_as v (kept_or v xs (by_triplets (turned kind) xs))) fine ∙ ap (converted_as (Ok tt)) e
 
 pub turns : SameTurns
 turns = record {

@@ -1,7 +1,6 @@
 -- coords.rs beside the port's conversions, with the port's sine, cosine and arctangent. Definitions only; the theorem `turns` is in proofs/Turns.antt.
-use Rattle.std.specs.Prelude.{◌≡◌, List, Float}
+use Rattle.std.specs.Prelude.{◌≡◌, List, Float, Ok}
 use Rattle.points.specs.declared.Point3.{Point3}
-use Rattle.limits.specs.declared.Verdict.TheVariants.{Fine}
 use Rattle.limits.specs.Refusals.{verdict_of, value_lines}
 use Rattle.coords.specs.Coords.{spherical_of, cartesian_of, radius_of}
 use Rattle.coords.specs.Arrays.{laid, lifted, converted_as, convert_of}
@@ -14,5 +13,5 @@ pub record SameTurns : Type 0 where
   pub cartesian : (p : Point3) → spherical_to_cartesian ported p ≡ cartesian_of (lifted p)
   pub radii : (p : Point3) → radius p ≡ radius_of p
   -- a list of any length, where its values are allowed
-  pub to_spherical : (xs : List Float) → verdict_of (value_lines 0 xs) ≡ Fine → convert_of 0 xs ≡ converted_as Fine (convert_array_to_spherical ported xs)
-  pub to_cartesian : (xs : List Float) → verdict_of (value_lines 1 xs) ≡ Fine → convert_of 1 xs ≡ converted_as Fine (convert_array_to_cartesian ported xs)
+  pub to_spherical : (xs : List Float) → verdict_of (value_lines 0 xs) ≡ Ok tt → convert_of 0 xs ≡ converted_as (Ok tt) (convert_array_to_spherical ported xs)
+  pub to_cartesian : (xs : List Float) → verdict_of (value_lines 1 xs) ≡ Ok tt → convert_of 1 xs ≡ converted_as (Ok tt) (convert_array_to_cartesian ported xs)

@@ -5,69 +5,50 @@
 #![tactic(auto)]
 
 ghost use Rattle.std.specs.Prelude.{◌≡◌, ◌+◌, ◌*◌, ◌<◌, ◌≤◌, length};
+ghost use Rattle.mix.specs.Mix.{receiver_of};
 ghost use Rattle.stored.specs.Numbers.{part_of, response_of, entries_of, around_of};
 ghost use Rattle.stored.specs.Longest.{longest_of, max_delay_of};
 
 use delays::{Samples, Seconds};
-use limits::{Sizes, Verdict};
+use limits::Sizes;
+pub use mix::Ear;
+use refusals::Refusal;
 
+// Sizes and number stand one by one: each call measures another of the lent lists, so a struct of both says no more.
 // ---- a measurement by its number
 
-// Where the taps of one ear stand in the caller's list, and how many they are; or the refusal.
+// Where the taps of one ear stand in the caller's list, and how many they are.
 #[derive(Clone, Copy)]
-pub enum Part {
-    Taps(usize, usize),
-    Refused(u32, usize),
+pub struct Taps {
+    pub start: usize,
+    pub count: usize,
 }
 
-// Of a list of so many responses, for ear 0 or 1: refusal 2, 3 or 8.
-fn part_of(sizes: Sizes, responses: usize, number: usize, ear: usize) -> Part
-    requires { ear ≤ 1 }
-    ensures { result ≡ part_of sizes responses number ear }
+// The taps of an ear in a list of so many responses, or refusal 2, 3 or 8.
+#[tactic(auto, unfolding(crate::specs::Numbers::part_of))]
+pub fn part_of(sizes: Sizes, responses: usize, number: usize, ear: Ear) -> Result<Taps, Refusal>
+    ensures { result ≡ part_of sizes responses number (receiver_of ear) }
 {
-    match limits::judge_response(sizes, responses, number) {
-        Verdict::Fine => Part::Taps(mix::start(number, sizes.r, sizes.n, ear), sizes.n),
-        Verdict::Refused(reason, place) => Part::Refused(reason, place),
-    }
-}
-
-pub fn left_part(sizes: Sizes, responses: usize, number: usize) -> Part
-    ensures { result ≡ part_of sizes responses number 0 }
-{
-    part_of(sizes, responses, number, 0)
-}
-
-pub fn right_part(sizes: Sizes, responses: usize, number: usize) -> Part
-    ensures { result ≡ part_of sizes responses number 1 }
-{
-    part_of(sizes, responses, number, 1)
+    limits::judge_response(sizes, responses, number)?;
+    Ok(Taps {
+        start: mix::start(number, sizes.r, sizes.n, ear),
+        count: sizes.n,
+    })
 }
 
 // A part of the caller's own list, not a copy: empty where it is refused, and `part_of` says why.
-fn response(sizes: Sizes, responses: &[f32], number: usize, ear: usize) -> &[f32]
-    requires { ear ≤ 1 }
-    ensures { result.now ≡ response_of sizes responses.now number ear }
+// No Result: what is promised is a list for every input (`response_of`).
+pub fn response(sizes: Sizes, responses: &[f32], number: usize, ear: Ear) -> &[f32]
+    ensures { result.now ≡ response_of sizes responses.now number (receiver_of ear) }
 {
-    let part = part_of(sizes, responses.len(), number, ear);
-    let Part::Taps(start, count) = part else {
+    let Ok(Taps { start, count }) = part_of(sizes, responses.len(), number, ear) else {
         return &responses[..0];
     };
     &responses[start..start + count]
 }
 
-pub fn left_response(sizes: Sizes, responses: &[f32], number: usize) -> &[f32]
-    ensures { result.now ≡ response_of sizes responses.now number 0 }
-{
-    response(sizes, responses, number, 0)
-}
-
-pub fn right_response(sizes: Sizes, responses: &[f32], number: usize) -> &[f32]
-    ensures { result.now ≡ response_of sizes responses.now number 1 }
-{
-    response(sizes, responses, number, 1)
-}
-
 // The six entries of a measurement as they stand: 65535 is absent.
+// Numbers, and no Option: they are answered as the lent table has them, in range or not (`around_of`).
 #[derive(Clone, Copy)]
 pub struct Entries {
     pub phi_plus: u16,
@@ -76,12 +57,6 @@ pub struct Entries {
     pub theta_minus: u16,
     pub radius_plus: u16,
     pub radius_minus: u16,
-}
-
-#[derive(Clone, Copy)]
-pub enum Around {
-    Six(Entries),
-    Refused(u32, usize),
 }
 
 fn row(neighbours: &[u16], number: usize) -> Entries
@@ -99,42 +74,32 @@ fn row(neighbours: &[u16], number: usize) -> Entries
 }
 
 // A measurement's six neighbours, or refusal 2, 3 or 8.
-pub fn neighbors_of(sizes: Sizes, neighbours: &[u16], number: usize) -> Around
+#[tactic(auto, unfolding(crate::specs::Numbers::around_of))]
+pub fn neighbors_of(sizes: Sizes, neighbours: &[u16], number: usize) -> Result<Entries, Refusal>
     ensures { result ≡ around_of sizes neighbours.now number }
 {
-    match limits::judge_neighbours(sizes, neighbours.len(), number) {
-        Verdict::Fine => Around::Six(row(neighbours, number)),
-        Verdict::Refused(reason, place) => Around::Refused(reason, place),
-    }
+    limits::judge_neighbours(sizes, neighbours.len(), number)?;
+    Ok(row(neighbours, number))
 }
 
 // ---- delays
-
-#[derive(Clone, Copy)]
-pub enum MaxDelay {
-    Delay(Seconds),
-    Refused(u32, usize),
-}
 
 // From +0, passing over NaN.
 fn longest(delays: &[f32]) -> Samples
     ensures { result ≡ longest_of delays.now }
 {
-    let mut most = 0.0;
-    let mut i = 0;
-    while i < delays.len() {
-        most = floats::max(most, delays[i]);
-        i += 1;
-    }
-    Samples(most)
+    Samples(
+        delays
+            .iter()
+            .fold(0.0, |most, delay| floats::max(most, *delay)),
+    )
 }
 
 // The longest delay of a set, or refusal 6.
-pub fn max_delay(delays: &[f32], rate: f32) -> MaxDelay
+#[tactic(auto, unfolding(crate::specs::Longest::max_delay_of))]
+pub fn max_delay(delays: &[f32], rate: f32) -> Result<Seconds, Refusal>
     ensures { result ≡ max_delay_of delays.now rate }
 {
-    match limits::judge_rate(rate) {
-        Verdict::Fine => MaxDelay::Delay(delays::seconds_of(longest(delays), rate)),
-        Verdict::Refused(reason, place) => MaxDelay::Refused(reason, place),
-    }
+    limits::judge_rate(rate)?;
+    Ok(delays::seconds_of(longest(delays), rate))
 }

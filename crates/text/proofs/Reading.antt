@@ -6,31 +6,94 @@ use mathlib.Core.List.{List, [], ◌∷◌, ◌++◌}
 use native.Mathlib.Nat.{pow-suc, one-le-pow, pow-le-pow_right, mul-le-mul_right, mul-le-mul_left, zero-add, zero-mul, suc-add}
 use native.Mathlib.Numerals.{add-one}
 use native.Mathlib.Omega.{arith}
-use lib.Dec.{T, eqb, eqb_refl, leb, ltb, lit<}
+use lib.Dec.{T, eqb, leb, ltb, lit<}
 use lib.ListN.{length, get_or, take, drop, set, drop_of_length-le, length-drop}
 use lib.Seq.{drop-cons, length-take-le}
 use lib.Ieee.{Float}
-use lib.Ieee.Bits.{is_true}
-use borrow.Author.Tests.{lt-ltb, le-ltb, eq-eqb, ne_eqb, le-leb, lt-leb, leb-true, eqb-true, eqb-false}
+use borrow.Author.Tests.{lt-ltb, le-ltb, eq-eqb, ne_eqb, le-leb, lt-leb, leb-true, ltb-true, ltb-false, eqb-true, eqb-false}
+use Rattle.std.proofs.Common.{◌⊎◌, inl, inr}
+use Rattle.std.specs.Bool.{then_some}
+use Rattle.std.proofs.lemmas.Option.{cond_some, none-some}
+use Rattle.std.specs.Prelude.{Option, Some, None, is_some, MatchOption}
+use Rattle.floats.specs.Floats.{zero32}
 use Rattle.floats.proofs.Cross.{and_left, and_right}
 use Rattle.lists.specs.Over.{over, into, upto}
 use Rattle.lists.proofs.Laws.{upto_more}
-use Rattle.text.specs.declared.Num.{Num}
-use Rattle.text.specs.declared.Num.TheVariants.{Is, Bad}
-use Rattle.text.specs.Values.{good_at, values_ok, all_below}
-use Rattle.text.specs.Number.{hex_of, count_of, digit_of, num_from, begins, at_most}
+use Rattle.text.specs.Values.{value_of, from_num, good_at, values_ok, all_below}
+use Rattle.text.specs.Number.{hex_of, count_of, digit_of, digit_in, num_from, begins, at_most}
 
 -- ---- digits
 
-pub num_on : (b v i : ℕ) (s : List ℕ) → i < length s → digit_of (get_or s i 0) < b → num_from b v (drop i s) ≡ num_from b (v * b + digit_of (get_or s i 0)) (drop (i + 1) s)
-unfolding num_from
-num_on b v i s h e = rw (drop-cons s i 0, lt-ltb _ _ e) (ap (λ (j : ℕ). num_from b (v * b + digit_of (get_or s i 0)) (drop j s)) (sym (add-one i)))
+low_digit : (b : ℕ) → 48 ≤ b → b ≤ 57 → digit_of b ≡ b - 48
+unfolding digit_of
+low_digit b h g = rw (le-leb 48 b h, le-leb b 57 g)
 
-pub num_bad : (b v i : ℕ) (s : List ℕ) → i < length s → b ≤ digit_of (get_or s i 0) → num_from b v (drop i s) ≡ Bad
-unfolding num_from
-num_bad b v i s h e = rw (drop-cons s i 0, le-ltb _ _ e)
+not_low : (b : ℕ) → (48 ≤ b → b ≤ 57 → ⊥) → (leb 48 b && leb b 57) ≡ false
+not_low b h = by (leb 48 b) (leb b 57) refl refl
+  where
+    by : (p q : Bool) → leb 48 b ≡ p → leb b 57 ≡ q → (p && q) ≡ false
+    by true true e f = absurd (h (leb-true 48 b e) (leb-true b 57 f))
+    by true false e f = refl
+    by false q e f = refl
 
-pub num_end : (b v i : ℕ) (s : List ℕ) → length s ≤ i → num_from b v (drop i s) ≡ Is v
+not_high : (b : ℕ) → (97 ≤ b → b ≤ 102 → ⊥) → (leb 97 b && leb b 102) ≡ false
+not_high b h = by (leb 97 b) (leb b 102) refl refl
+  where
+    by : (p q : Bool) → leb 97 b ≡ p → leb b 102 ≡ q → (p && q) ≡ false
+    by true true e f = absurd (h (leb-true 97 b e) (leb-true b 102 f))
+    by true false e f = refl
+    by false q e f = refl
+
+high_digit : (b : ℕ) → 97 ≤ b → b ≤ 102 → digit_of b ≡ b - 87
+unfolding digit_of
+high_digit b h g = rw (not_low b (λ p q. omega arith), le-leb 97 b h, le-leb b 102 g)
+
+other : (b : ℕ) → (48 ≤ b → b ≤ 57 → ⊥) → (97 ≤ b → b ≤ 102 → ⊥) → digit_of b ≡ 16
+unfolding digit_of
+other b h g = rw (not_low b h, not_high b g)
+
+-- what the code finds of a byte
+pub no_digit : (base b : ℕ) → base ≤ 16 → (48 ≤ b → b ≤ 57 → ⊥) → (97 ≤ b → b ≤ 102 → ⊥) → None ≡ digit_in base b
+unfolding digit_in
+no_digit base b k h g = rw (other b h g, le-ltb 16 base k)
+
+if_so : (t : Bool) (d : ℕ) → then_some t d ≡ cond t (Some d) None
+if_so true d = refl
+if_so false d = refl
+
+pub as_digit : (base b d : ℕ) (r : Option ℕ) → ((48 ≤ b) × (b ≤ 57) × (d ≡ b - 48)) ⊎ ((97 ≤ b) × (b ≤ 102) × (d ≡ b - 87)) → r ≡ then_some (ltb d base) d → r ≡ digit_in base b
+unfolding digit_in
+as_digit base b d r (inl (h, g, e)) f = rw (low_digit b h g, ← e) (f ∙ if_so (ltb d base) d)
+as_digit base b d r (inr (h, g, e)) f = rw (high_digit b h g, ← e) (f ∙ if_so (ltb d base) d)
+
+-- a digit that is one of the base, and a byte that is none
+digit_some : (base b d : ℕ) → Some d ≡ digit_in base b → (digit_of b < base) × (digit_of b ≡ d)
+unfolding digit_in
+digit_some base b d e = let f = cond_some (ltb (digit_of b) base) (digit_of b) d (sym e) in (ltb-true (digit_of b) base f.0, f.1)
+
+digit_none : (base b : ℕ) → None ≡ digit_in base b → base ≤ digit_of b
+unfolding digit_in
+digit_none base b e = by (ltb (digit_of b) base) refl e
+  where
+    by : (t : Bool) → ltb (digit_of b) base ≡ t → None ≡ cond t (Some (digit_of b)) None → base ≤ digit_of b
+    by true f e = absurd (none-some (digit_of b) e)
+    by false f e = ltb-false (digit_of b) base f
+
+pub digit_small : (base b d : ℕ) → Some d ≡ digit_in base b → d < base
+digit_small base b d e = let f = digit_some base b d e in omega arith
+
+pub num_on : (b v i d : ℕ) (s : List ℕ) → i < length s → Some d ≡ digit_in b (get_or s i 0) → num_from b v (drop i s) ≡ num_from b (v * b + d) (drop (i + 1) s)
+unfolding num_from
+num_on b v i d s h e =
+    let f = digit_some b (get_or s i 0) d e in
+    rw (drop-cons s i 0, lt-ltb _ _ f.0)
+    (ap (λ (x : ℕ). num_from b (v * b + x) (drop (suc i) s)) f.1 ∙ ap (λ (j : ℕ). num_from b (v * b + d) (drop j s)) (sym (add-one i)))
+
+pub num_bad : (b v i : ℕ) (s : List ℕ) → i < length s → None ≡ digit_in b (get_or s i 0) → num_from b v (drop i s) ≡ None
+unfolding num_from
+num_bad b v i s h e = rw (drop-cons s i 0, le-ltb _ _ (digit_none b (get_or s i 0) e))
+
+pub num_end : (b v i : ℕ) (s : List ℕ) → length s ≤ i → num_from b v (drop i s) ≡ Some v
 unfolding num_from
 num_end b v i s h = rw (drop_of_length-le s h)
 
@@ -41,21 +104,21 @@ room i v d hv hd = rw (add-one, pow-suc) (omega arith)
 pub small : (i : ℕ) → i ≤ 8 → 16 ^ i ≤ 4294967296
 small i h = pow-le-pow_right {n = 16} (lit< tt) h
 
-pub under : (k v : ℕ) → v ≤ k → at_most k (Is v) ≡ Is v
+pub under : (k v : ℕ) → v ≤ k → at_most k (Some v) ≡ Some v
 unfolding at_most
 under k v h = rw (le-leb _ _ h)
 
-above : (k v : ℕ) → k < v → at_most k (Is v) ≡ Bad
+above : (k v : ℕ) → k < v → at_most k (Some v) ≡ None
 unfolding at_most
 above k v h = rw (lt-leb _ _ h)
 
-either : (k : ℕ) (b : Bool) (x : Num) → at_most k x ≡ Bad → at_most k (cond b x Bad) ≡ Bad
+either : (k : ℕ) (b : Bool) (x : Option ℕ) → at_most k x ≡ None → at_most k (cond b x None) ≡ None
 unfolding at_most
 either k true x e = e
 either k false x e = refl
 
 -- what would be above the limit with zeros for the digits to come is above it
-grows : (k v : ℕ) (s : List ℕ) → k < v * 10 ^ length s → at_most k (num_from 10 v s) ≡ Bad
+grows : (k v : ℕ) (s : List ℕ) → k < v * 10 ^ length s → at_most k (num_from 10 v s) ≡ None
 unfolding num_from
 grows k v [] h = above k v (omega arith)
 grows k v (b ∷ s) h =
@@ -65,7 +128,7 @@ grows k v (b ∷ s) h =
     more d p g = omega arith
 
 -- a value once above the limit only grows
-pub too_many : (k v : ℕ) (s : List ℕ) → k < v → at_most k (num_from 10 v s) ≡ Bad
+pub too_many : (k v : ℕ) (s : List ℕ) → k < v → at_most k (num_from 10 v s) ≡ None
 too_many k v s h =
     let p : 0 < 10 ^ length s = one-le-pow (length s) 10 (lit< tt) in
     let q : v * 1 ≤ v * 10 ^ length s = mul-le-mul_left v p in
@@ -85,7 +148,7 @@ nonzero b e = go (leb 48 b && leb b 57) (leb 97 b && leb b 102) refl refl
     go false false f g = lit< tt
 
 -- a decimal with more digits than its limit is malformed, however long it is
-pub long_count : (k i : ℕ) (s : List ℕ) → k < 10 ^ suc i → suc i < length s → count_of k s ≡ Bad
+pub long_count : (k i : ℕ) (s : List ℕ) → k < 10 ^ suc i → suc i < length s → count_of k s ≡ None
 unfolding count_of num_from
 long_count k i [] h g = absurd (omega arith)
 long_count k i (b ∷ []) h g = absurd (omega arith)
@@ -98,44 +161,25 @@ long_count k i (b ∷ c ∷ s) h g =
         let q : 1 * 10 ^ length (c ∷ s) ≤ digit_of b * 10 ^ length (c ∷ s) = mul-le-mul_right (10 ^ length (c ∷ s)) (nonzero b n) in
         omega arith
 
-    by : (z : Bool) → eqb b 48 ≡ z → cond (z && true) Bad (at_most k (cond (ltb (digit_of b) 10) (num_from 10 (0 * 10 + digit_of b) (c ∷ s)) Bad)) ≡ Bad
+    by : (z : Bool) → eqb b 48 ≡ z → cond (z && true) None (at_most k (cond (ltb (digit_of b) 10) (num_from 10 (0 * 10 + digit_of b) (c ∷ s)) None)) ≡ None
     by true e = refl
     by false e = either k (ltb (digit_of b) 10) (num_from 10 (0 * 10 + digit_of b) (c ∷ s)) (rw (zero-mul, zero-add) (grows k (digit_of b) (c ∷ s) (big (eqb-false b 48 e))))
 
 -- what a decimal says is at most its limit
-pub count_within : (k v : ℕ) (s : List ℕ) → count_of k s ≡ Is v → v ≤ k
+pub count_within : (k v : ℕ) (s : List ℕ) → count_of k s ≡ Some v → v ≤ k
 unfolding count_of at_most
 count_within k v s e = by (eqb (length s) 0 || (eqb (get_or s 0 0) 48 && not (eqb (length s) 1))) (num_from 10 0 s) e
   where
-    most : (w : ℕ) (t : Bool) → leb w k ≡ t → cond t (Is w) Bad ≡ Is v → v ≤ k
+    most : (w : ℕ) (t : Bool) → leb w k ≡ t → cond t (Some w) None ≡ Some v → v ≤ k
     most w true f e = let g : w ≡ v = cc in omega (arith, leb-true w k f)
     most w false f e = let z : ◌≡◌ {A = ℕ} 0 1 = cc in omega arith
 
-    by : (t : Bool) (x : Num) → cond t Bad (at_most k x) ≡ Is v → v ≤ k
+    by : (t : Bool) (x : Option ℕ) → cond t None (at_most k x) ≡ Some v → v ≤ k
     by true x e = let z : ◌≡◌ {A = ℕ} 0 1 = cc in omega arith
-    by false Bad e = let z : ◌≡◌ {A = ℕ} 0 1 = cc in omega arith
-    by false (Is w) e = most w (leb w k) refl e
+    by false None e = let z : ◌≡◌ {A = ℕ} 0 1 = cc in omega arith
+    by false (Some w) e = most w (leb w k) refl e
 
 -- ---- a prefix
-
-pub begins_on : (k s : List ℕ) (i : ℕ) → i < length k → i < length s → get_or s i 0 ≡ get_or k i 0 → begins (drop i k) (drop i s) ≡ begins (drop (i + 1) k) (drop (i + 1) s)
-unfolding begins
-begins_on k s i hk hs e = rw (add-one, drop-cons k i 0, drop-cons s i 0, e, same (get_or k i 0))
-  where
-    same : (n : ℕ) → eqb n n ≡ true
-    same n = is_true _ (eqb_refl n)
-
-pub begins_not : (k s : List ℕ) (i : ℕ) → i < length k → i < length s → (get_or s i 0 ≡ get_or k i 0 → ⊥) → begins (drop i k) (drop i s) ≡ false
-unfolding begins
-begins_not k s i hk hs e = rw (drop-cons k i 0, drop-cons s i 0, ne_eqb _ _ e)
-
-pub begins_short : (k s : List ℕ) (i : ℕ) → i < length k → length s ≤ i → begins (drop i k) (drop i s) ≡ false
-unfolding begins
-begins_short k s i hk hs = rw (drop-cons k i 0, drop_of_length-le s hs)
-
-pub begins_end : (k s : List ℕ) (i : ℕ) → length k ≤ i → begins (drop i k) (drop i s) ≡ true
-unfolding begins
-begins_end k s i h = rw (drop_of_length-le k h)
 
 -- what begins with k is as long
 pub begins_length : (k s : List ℕ) → begins k s ≡ true → length k ≤ length s
@@ -147,22 +191,31 @@ begins_length (x ∷ k) (y ∷ s) e = let h = begins_length k s (and_right (eqb 
 -- ---- the values of a line
 
 -- the eight digits of value k, as the code takes them
-pub eight : (s : List ℕ) (k : ℕ) {r r' : Num} → r ≡ hex_of (take (9 * k + 8 - 9 * k) (drop (9 * k) s)) → r ≡ r' → hex_of (take 8 (drop (9 * k) s)) ≡ r'
-eight s k e f =
+pub eight : (s : List ℕ) (k : ℕ) {r : Option ℕ} → r ≡ hex_of (take (9 * k + 8 - 9 * k) (drop (9 * k) s)) → r ≡ hex_of (take 8 (drop (9 * k) s))
+eight s k e =
     let n : 9 * k + 8 - 9 * k ≡ 8 = omega arith in
-    ap (λ (n : ℕ). hex_of (take n (drop (9 * k) s))) (sym n) ∙ sym e ∙ f
+    e ∙ ap (λ (n : ℕ). hex_of (take n (drop (9 * k) s))) n
 
-pub good_bad : (s : List ℕ) (n k : ℕ) → hex_of (take 8 (drop (9 * k) s)) ≡ Bad → good_at s n k ≡ false
+-- the value that the digits say, as the code finds it
+pub from_is : (o : Option ℕ) (r : Float) → MatchOption o (r ≡ zero32) (λ x. r ≡ value_of x) → r ≡ from_num o
+from_is (Some x) r e = e
+from_is None r e = e
+
+-- whether value k is a number, as the code asks
+pub is_value : (s : List ℕ) (k : ℕ) (r : Option ℕ) (t : Bool) → r ≡ hex_of (take (9 * k + 8 - 9 * k) (drop (9 * k) s)) → t ≡ is_some r → is_some (hex_of (take 8 (drop (9 * k) s))) ≡ t
+is_value s k r t e f = ap is_some (sym (eight s k e)) ∙ sym f
+
+pub good_bad : (s : List ℕ) (n k : ℕ) → is_some (hex_of (take 8 (drop (9 * k) s))) ≡ false → good_at s n k ≡ false
 unfolding good_at
 good_bad s n k e = rw e
 
-pub good_last : (s : List ℕ) (n k v : ℕ) → hex_of (take 8 (drop (9 * k) s)) ≡ Is v → k + 1 ≡ n → good_at s n k ≡ true
+pub good_last : (s : List ℕ) (n k : ℕ) → is_some (hex_of (take 8 (drop (9 * k) s))) ≡ true → k + 1 ≡ n → good_at s n k ≡ true
 unfolding good_at
-good_last s n k v e f = rw (e, eq-eqb _ _ f)
+good_last s n k e f = rw (e, eq-eqb _ _ f)
 
-pub good_on : (s : List ℕ) (n k v : ℕ) → hex_of (take 8 (drop (9 * k) s)) ≡ Is v → (k + 1 ≡ n → ⊥) → good_at s n k ≡ eqb (get_or s (9 * k + 8) 0) 44
+pub good_on : (s : List ℕ) (n k : ℕ) → is_some (hex_of (take 8 (drop (9 * k) s))) ≡ true → (k + 1 ≡ n → ⊥) → good_at s n k ≡ eqb (get_or s (9 * k + 8) 0) 44
 unfolding good_at
-good_on s n k v e f = rw (e, ne_eqb _ _ f)
+good_on s n k e f = rw (e, ne_eqb _ _ f)
 
 pub all_more : (f : ℕ → Bool) (n : ℕ) → all_below f n ≡ true → f n ≡ true → all_below f (n + 1) ≡ true
 unfolding all_below

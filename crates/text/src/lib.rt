@@ -18,7 +18,7 @@
 
 ghost use Rattle.std.specs.Prelude.{◌≡◌, ◌&&◌, ◌+◌, ◌*◌, ◌≤◌, ◌<◌, min, leb, length, set, drop};
 ghost use Rattle.lists.specs.Over.{over};
-ghost use Rattle.text.specs.Number.{digit_of, num_from, hex_of, count_of, begins, at_most};
+ghost use Rattle.text.specs.Number.{digit_in, num_from, hex_of, count_of, at_most};
 ghost use Rattle.text.specs.Print.{glyph_of, hex_text, decimal_text};
 ghost use Rattle.text.specs.Values.{good_at, values_ok, value_at, stored};
 ghost use Rattle.text.specs.Lines.{CutSays};
@@ -26,116 +26,88 @@ ghost use Rattle.text.specs.Keys.{exactly_of, num_behind, values_fit, point_read
 
 use points::Point3;
 
-#[derive(Clone, Copy)]
-pub enum Num {
-    Is(u32),
-    Bad,
-}
-
-fn digit(b: u8) -> u64
-    ensures { result ≡ digit_of b }
+// A digit of the base: `0` to `9`, then `a` to `f`.
+fn digit(b: u8, base: u32) -> Option<u32>
+    requires { base ≤ 16 }
+    ensures { result ≡ digit_in base b }
 {
-    let w = b as u64;
-    if (48 <= w) & (w <= 57) {
-        return w - 48;
-    }
-    if (97 <= w) & (w <= 102) {
-        return w - 87;
-    }
-    16
+    let d = match b {
+        b'0'..=b'9' => b - b'0',
+        b'a'..=b'f' => b - b'a' + 10,
+        _ => return None,
+    };
+    let d = d as u32;
+    (d < base).then_some(d)
 }
 
+// By hand: `from_str_radix` takes a &str, not bytes, and allows a sign, capitals and leading zeros.
 // Eight lower-case hexadecimal digits, and nothing else.
-pub fn hex(s: &[u8]) -> Num
+pub fn hex(s: &[u8]) -> Option<u32>
     ensures { result ≡ hex_of s.now }
 {
     if s.len() != 8 {
-        return Num::Bad;
+        return None;
     }
-    let mut v = 0u64;
-    let mut i = 0;
-    while i < s.len() {
-        let d = digit(s[i]);
-        if 16 <= d {
-            return Num::Bad;
-        }
+    let mut v = 0;
+    for b in s {
+        let d = digit(*b, 16)?;
         v = v * 16 + d;
-        i += 1;
     }
-    Num::Is(v as u32)
+    Some(v)
 }
 
 // A decimal of any length: no sign, no leading zero, at most the limit.
-pub fn count(s: &[u8], limit: u32) -> Num
+pub fn count(s: &[u8], limit: u32) -> Option<u32>
     ensures { result ≡ count_of limit s.now }
 {
     let n = s.len();
     if n == 0 {
-        return Num::Bad;
+        return None;
     }
-    if (s[0] == 48) & (n != 1) {
-        return Num::Bad;
+    if (s[0] == b'0') & (n != 1) {
+        return None;
     }
     digits(s, limit)
 }
 
+// Apart from `hex`, whose eight digits cannot wrap: with a limit for both, neither would be plainer.
 // The value stays at or below the limit, so that it cannot wrap: what is once above it only grows.
-fn digits(s: &[u8], limit: u32) -> Num
+fn digits(s: &[u8], limit: u32) -> Option<u32>
     ensures { result ≡ at_most limit (num_from 10 0 s.now) }
 {
     let most = limit as u64;
     let mut v = 0u64;
-    let mut i = 0;
-    while i < s.len() {
-        let d = digit(s[i]);
-        if 10 <= d {
-            return Num::Bad;
-        }
-        let w = v * 10 + d;
-        if most < w {
-            return Num::Bad;
-        }
-        v = w;
-        i += 1;
-    }
-    Num::Is(v as u32)
-}
-
-pub fn begins_with(k: &[u8], s: &[u8]) -> bool
-    ensures { result ≡ begins k.now s.now }
-{
-    let mut i = 0;
-    while i < k.len() {
-        if s.len() <= i {
-            return false;
-        }
-        if s[i] == k[i] {
-            i += 1;
-        } else {
-            return false;
+    for b in s {
+        let d = digit(*b, 10)?;
+        v = v * 10 + d as u64;
+        if most < v {
+            return None;
         }
     }
-    true
+    Some(v as u32)
 }
 
 fn glyph(d: u32) -> u8
     requires { d < 16 }
     ensures { result ≡ glyph_of d }
 {
-    if d < 10 { 48 + d as u8 } else { 87 + d as u8 }
+    if d < 10 {
+        b'0' + d as u8
+    } else {
+        b'a' - 10 + d as u8
+    }
 }
 
+// Printed by hand into a lent list: `format!` makes a String, and there is no heap.
 // x as eight lower-case hexadecimal digits, at the front of out.
 pub fn put_hex(x: u32, out: &mut [u8])
     requires { 8 ≤ length out.old }
     ensures { out.new ≡ over (hex_text x) out.old }
 {
     let mut p = 0x1000_0000u32;
-    let mut i = 0;
-    while i < 8 {
+    for i in 0..8 {
         out[i] = glyph(x / p % 16);
-        p = p / 16;
-        i += 1;
+        p /= 16;
     }
 }
 
@@ -145,11 +117,11 @@ pub fn put_decimal(x: usize, out: &mut [u8]) -> usize
     ensures { (result ≡ length (decimal_text x)) × (out.new ≡ over (decimal_text x) out.old) }
 {
     if x < 10 {
-        out[0] = 48 + x as u8;
+        out[0] = b'0' + x as u8;
         return 1;
     }
     let n = put_decimal(x / 10, out);
-    out[n] = 48 + (x % 10) as u8;
+    out[n] = b'0' + (x % 10) as u8;
     n + 1
 }
 
@@ -161,14 +133,7 @@ fn good_at(s: &[u8], n: usize, k: usize) -> bool
 {
     let a = 9 * k;
     let e = a + 8;
-    let h = hex(&s[a..e]);
-    let Num::Is(_) = h else {
-        return false;
-    };
-    if k + 1 == n {
-        return true;
-    }
-    s[e] == 44
+    hex(&s[a..e]).is_some() && (k + 1 == n || s[e] == b',')
 }
 
 // Whether the line is exactly n values. The length is divided, since 9 * n could wrap.
@@ -176,26 +141,21 @@ pub fn values_ok(s: &[u8], n: usize) -> bool
     ensures { result ≡ values_ok s.now n }
 {
     if n == 0 {
-        return s.len() == 0;
+        return s.is_empty();
     }
     let long = s.len() + 1;
-    if long % 9 != 0 {
+    if long % 9 != 0 || long / 9 != n {
         return false;
     }
-    if long / 9 != n {
-        return false;
-    }
-    let mut k = 0;
-    while k < n {
-        if good_at(s, n, k) {
-            k += 1;
-        } else {
+    for k in 0..n {
+        if !good_at(s, n, k) {
             return false;
         }
     }
     true
 }
 
+// No Option: both callers have judged the whole line before, so that its values are all there.
 // Value k of a line that is long enough; +0 where it is malformed.
 pub fn value_at(s: &[u8], k: usize) -> f32
     requires { 9 * k + 8 ≤ length s.now }
@@ -203,36 +163,26 @@ pub fn value_at(s: &[u8], k: usize) -> f32
 {
     let a = 9 * k;
     let e = a + 8;
-    let h = hex(&s[a..e]);
-    let Num::Is(v) = h else {
-        return 0.0;
-    };
-    floats::value(v)
+    hex(&s[a..e]).map_or(0.0, floats::value)
 }
 
+// A test that writes: what is answered has no value beside it. n, out and at pass through here and are kept nowhere.
 // The n values of a line, to out from place `at` on. A line that is malformed, or that finds no room, writes nothing.
 pub fn values(s: &[u8], n: usize, out: &mut [f32], at: usize) -> bool
     ensures { (result ≡ (values_ok s.now n && leb (at + n) (length out.old))) × (out.new ≡ stored result s.now n at out.old) }
 {
-    if out.len() < n {
+    if out.len() < n || out.len() - n < at || !values_ok(s, n) {
         return false;
     }
-    if out.len() - n < at {
-        return false;
+    for k in 0..n {
+        out[at + k] = value_at(s, k);
     }
-    if values_ok(s, n) {
-        let mut k = 0;
-        while k < n {
-            out[at + k] = value_at(s, k);
-            k += 1;
-        }
-        return true;
-    }
-    false
+    true
 }
 
 // ---- lines
 
+// No Option and no Result: both cases say how much the buffer holds.
 #[derive(Clone, Copy)]
 pub enum Cut {
     // A whole line: the chunk goes on at the first number, and so many bytes of the line are in the buffer.
@@ -241,6 +191,7 @@ pub enum Cut {
     More(usize),
 }
 
+// How much of the buffer is used stands beside it, since it is lent: there is no heap.
 // One byte more of the line begun, if there is room: how many are kept.
 fn keep(buf: &mut [u8], used: usize, b: u8) -> usize
     requires { used ≤ length buf.old }
@@ -259,83 +210,64 @@ pub fn next_line(chunk: &[u8], from: usize, buf: &mut [u8], used: usize) -> Cut
         × (used ≤ length buf.old) }
     ensures { CutSays chunk.now buf.old from used result buf.new }
 {
-    let mut i = from;
     let mut u = used;
-    while i < chunk.len() {
+    for i in from..chunk.len() {
         let b = chunk[i];
-        if b == 10 {
+        if b == b'\n' {
             return Cut::Line(i + 1, u);
         }
         u = keep(buf, u, b);
-        i += 1;
     }
     Cut::More(u)
 }
 
 // ---- keys
 
-#[derive(Clone, Copy)]
-pub enum Place {
-    At(Point3),
-    Nowhere,
-}
-
+#[tactic(auto, using(crate::proofs::Keys::same_word))]
 pub fn exactly(word: &[u8], line: &[u8]) -> bool
     ensures { result ≡ exactly_of word.now line.now }
 {
-    begins_with(word, line) & (line.len() == word.len())
+    line == word
 }
 
-pub fn count_behind(key: &[u8], line: &[u8], limit: u32) -> Num
+// A key and its line stand one by one, and each reader is a line: one function over a closure would be no plainer.
+pub fn count_behind(key: &[u8], line: &[u8], limit: u32) -> Option<u32>
     ensures { result ≡ num_behind key.now (count_of limit) line.now }
 {
-    if begins_with(key, line) {
-        let k = key.len();
-        return count(&line[k..], limit);
-    }
-    Num::Bad
+    count(line.strip_prefix(key)?, limit)
 }
 
-pub fn hex_behind(key: &[u8], line: &[u8]) -> Num
+pub fn hex_behind(key: &[u8], line: &[u8]) -> Option<u32>
     ensures { result ≡ num_behind key.now hex_of line.now }
 {
-    if begins_with(key, line) {
-        let k = key.len();
-        return hex(&line[k..]);
-    }
-    Num::Bad
+    hex(line.strip_prefix(key)?)
 }
 
 // The n values behind the key, to out from place `at` on. A line that is malformed, or that finds no room, writes nothing.
 pub fn values_behind(key: &[u8], line: &[u8], n: usize, out: &mut [f32], at: usize) -> bool
     ensures { (result ≡ values_fit key.now n at line.now out.old) × (out.new ≡ stored result (drop (length key.now) line.now) n at out.old) }
 {
-    if begins_with(key, line) {
-        let k = key.len();
-        return values(&line[k..], n, out, at);
+    match line.strip_prefix(key) {
+        Some(rest) => values(rest, n, out, at),
+        None => false,
     }
-    false
 }
 
-pub fn point_behind(key: &[u8], line: &[u8]) -> Place
+pub fn point_behind(key: &[u8], line: &[u8]) -> Option<Point3>
     ensures { result ≡ point_behind key.now line.now }
 {
-    if begins_with(key, line) {
-        let k = key.len();
-        return point(&line[k..]);
-    }
-    Place::Nowhere
+    point(line.strip_prefix(key)?)
 }
 
-fn point(s: &[u8]) -> Place
+fn point(s: &[u8]) -> Option<Point3>
     ensures { result ≡ point_read s.now }
 {
-    if values_ok(s, 3) {
-        return Place::At(Point3 {
-            x: value_at(s, 0),
-            y: value_at(s, 1),
-            z: value_at(s, 2),
-        });
+    if !values_ok(s, 3) {
+        return None;
     }
-    Place::Nowhere
+    Some(Point3 {
+        x: value_at(s, 0),
+        y: value_at(s, 1),
+        z: value_at(s, 2),
+    })
 }

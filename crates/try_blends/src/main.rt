@@ -3,40 +3,21 @@
 #![tactic(auto)]
 
 use delays::{Answer, Outcome};
+use interpolate::{Filters, Measurements};
+use mix::Responses;
 use points::Point3;
-
-fn point(xs: [f32; 21], k: usize, x: f32, y: f32, z: f32) -> [f32; 21] {
-    let mut ys = xs;
-    if k < 7 {
-        ys[3 * k] = x;
-        ys[3 * k + 1] = y;
-        ys[3 * k + 2] = z;
-    }
-    ys
-}
 
 // Seven measurements: one in front, one to each of four sides, one farther and one nearer.
 fn cartesian() -> [f32; 21] {
-    let a = point([0.0; 21], 0, 1.0, 0.0, 0.0);
-    let b = point(a, 1, 0.0, 1.0, 0.0);
-    let c = point(b, 2, 0.0, -1.0, 0.0);
-    let d = point(c, 3, 0.0, 0.0, 1.0);
-    let e = point(d, 4, 0.0, 0.0, -1.0);
-    let f = point(e, 5, 2.0, 0.0, 0.0);
-    point(f, 6, 0.5, 0.0, 0.0)
-}
-
-fn row(xs: [u16; 42], k: usize, a: u16, b: u16, c: u16, d: u16, e: u16, f: u16) -> [u16; 42] {
-    let mut ys = xs;
-    if k < 7 {
-        ys[6 * k] = a;
-        ys[6 * k + 1] = b;
-        ys[6 * k + 2] = c;
-        ys[6 * k + 3] = d;
-        ys[6 * k + 4] = e;
-        ys[6 * k + 5] = f;
-    }
-    ys
+    [
+        1.0, 0.0, 0.0, //
+        0.0, 1.0, 0.0, //
+        0.0, -1.0, 0.0, //
+        0.0, 0.0, 1.0, //
+        0.0, 0.0, -1.0, //
+        2.0, 0.0, 0.0, //
+        0.5, 0.0, 0.0,
+    ]
 }
 
 const NONE: u16 = 65535;
@@ -44,74 +25,59 @@ const NONE: u16 = 65535;
 // Row 0 has all six, row 1 none, row 2 one, row 3 two pairs, row 4 one measurement six times, row 5 an entry that is no measurement,
 // and row 6 such an entry as the second of a pair.
 fn neighbours() -> [u16; 42] {
-    let none = [NONE; 42];
-    let a = row(none, 0, 1, 2, 3, 4, 5, 6);
-    let b = row(a, 2, NONE, NONE, NONE, 0, NONE, NONE);
-    let c = row(b, 3, 0, 1, NONE, NONE, 4, 2);
-    let d = row(c, 4, 5, 5, 5, 5, 5, 5);
-    let e = row(d, 5, 7, NONE, NONE, NONE, NONE, NONE);
-    row(e, 6, NONE, NONE, NONE, NONE, 0, 65534)
+    [
+        1, 2, 3, 4, 5, 6, //
+        NONE, NONE, NONE, NONE, NONE, NONE, //
+        NONE, NONE, NONE, 0, NONE, NONE, //
+        0, 1, NONE, NONE, 4, 2, //
+        5, 5, 5, 5, 5, 5, //
+        7, NONE, NONE, NONE, NONE, NONE, //
+        NONE, NONE, NONE, NONE, 0, 65534,
+    ]
 }
 
-// Each value is the one before it and `step`.
-fn climb(xs: &mut [f32], step: f32) {
-    let mut i = 1;
-    while i < xs.len() {
-        xs[i] = xs[i - 1] + step;
-        i += 1;
+// From `first` on, each value is the one before it and `step`.
+fn climb(xs: &mut [f32], first: f32, step: f32) {
+    let mut next = first;
+    for x in xs {
+        *x = next;
+        next = next + step;
     }
 }
 
 // Taps from 0.25 on, with −0, NaN and both infinities among them.
 fn responses() -> [f32; 42] {
-    let mut xs = [0.25; 42];
-    climb(&mut xs, 0.75);
+    let mut xs = [0.0; 42];
+    climb(&mut xs, 0.25, 0.75);
     xs[7] = -0.0;
-    xs[26] = -1.0 / 0.0;
-    xs[38] = 0.0 / 0.0;
-    xs[40] = 1.0 / 0.0;
+    xs[26] = f32::NEG_INFINITY;
+    xs[38] = f32::NAN;
+    xs[40] = f32::INFINITY;
     xs
 }
 
 // Delays in samples, with −0, NaN and an infinity among them.
 fn delay_list() -> [f32; 15] {
-    let mut xs = [10.5; 15];
-    climb(&mut xs, 3.25);
+    let mut xs = [0.0; 15];
+    climb(&mut xs, 10.5, 3.25);
     xs[1] = -0.0;
-    xs[11] = 1.0 / 0.0;
-    xs[12] = 0.0 / 0.0;
+    xs[11] = f32::INFINITY;
+    xs[12] = f32::NAN;
     xs
 }
 
-fn digit(d: u32) -> u8 {
-    let x = (d % 16) as u8;
-    if x < 10 { 48 + x } else { 87 + x }
-}
-
+// Through `io`, without a heap: a value by its bits, which no Display does. `try_finds` has the like of this line.
 fn print_value(x: f32) {
-    let bits = floats::pattern(x);
-    let text = [
-        digit(bits / 0x1000_0000),
-        digit(bits / 0x100_0000),
-        digit(bits / 0x10_0000),
-        digit(bits / 0x1_0000),
-        digit(bits / 0x1000),
-        digit(bits / 0x100),
-        digit(bits / 0x10),
-        digit(bits),
-    ];
-    io::write_all(1, &text);
+    io::print_hex(1, floats::pattern(x) as u64, 8);
 }
 
 fn print_samples(name: &[u8], xs: &[f32]) {
     io::write_all(1, name);
-    let mut i = 0;
-    while i < xs.len() {
+    for (i, &x) in xs.iter().enumerate() {
         if i > 0 {
             io::write_all(1, b",");
         }
-        print_value(xs[i]);
-        i += 1;
+        print_value(x);
     }
     io::write_all(1, b"\n");
 }
@@ -122,6 +88,7 @@ fn print_count(name: &[u8], x: u64) {
     io::write_all(1, b"\n");
 }
 
+// What is tried is the answer as it goes to C, with a number in the place of an enum.
 fn print_answer(a: Answer) {
     if a.reason != 0 {
         print_count(b"refused=", a.reason as u64);
@@ -137,118 +104,108 @@ fn print_answer(a: Answer) {
     print_samples(b"rdelay=", &[a.right.0]);
 }
 
-// The blend, or the plain filter, over the set's lists.
-fn filter(
-    plain: bool,
-    delays: &[f32],
+// One case: the sizes, how many delays there are, the nearest's number, the query, and how long the outputs are.
+// The plain filter asks for no query.
+#[derive(Clone, Copy)]
+struct Case {
     m: usize,
     r: usize,
     n: usize,
+    delays: usize,
     nearest: usize,
-    position: Point3,
-    left: &mut [f32],
-    right: &mut [f32],
-) -> Outcome {
-    let cart = cartesian();
-    let near = neighbours();
-    let resp = responses();
-    if 7 < m {
+    position: Option<Point3>,
+    left: usize,
+    right: usize,
+}
+
+// The blend, or the plain filter, over the set's lists.
+fn filter(case: Case, delays: &[f32], left: &mut [f32], right: &mut [f32]) -> Outcome {
+    let Case { m, r, n, .. } = case;
+    if 7 < m || r < 2 || 3 < r || 3 < n {
         return Outcome::Refused(2, 0);
     }
-    if r < 2 {
-        return Outcome::Refused(2, 0);
-    }
-    if 3 < r {
-        return Outcome::Refused(2, 0);
-    }
-    if 3 < n {
-        return Outcome::Refused(2, 0);
-    }
+    let cartesian = cartesian();
+    let neighbours = neighbours();
+    let taps = responses();
     if 42 < m * r * n {
         return Outcome::Refused(3, 0);
     }
-    if m <= nearest {
-        return Outcome::Refused(8, nearest);
+    if m <= case.nearest {
+        return Outcome::Refused(8, case.nearest);
     }
-    if plain {
-        return interpolate::get_filter_nointerp(
-            &resp, delays, 48000.0, m, r, n, nearest, left, right,
-        );
-    }
-    interpolate::interpolate(
-        &cart, &near, &resp, delays, 48000.0, m, r, n, nearest, position, left, right,
-    )
-}
-
-// Asks over the first `count` delays and outputs of `ll` and `rl` samples, and prints the whole lists that these are the fronts of.
-fn show(
-    plain: bool,
-    m: usize,
-    r: usize,
-    n: usize,
-    delays: &[f32],
-    count: usize,
-    nearest: usize,
-    position: Point3,
-    left: &mut [f32],
-    ll: usize,
-    right: &mut [f32],
-    rl: usize,
-) {
-    if delays.len() < count {
-        return;
-    }
-    if left.len() < ll {
-        return;
-    }
-    if right.len() < rl {
-        return;
-    }
-    let o = filter(
-        plain,
-        &delays[..count],
+    let responses = Responses {
+        taps: &taps,
         m,
         r,
         n,
-        nearest,
-        position,
-        &mut left[..ll],
-        &mut right[..rl],
+    };
+    let filters = Filters {
+        responses,
+        delays,
+        rate: 48000.0,
+    };
+    let Some(position) = case.position else {
+        return filters.get_filter_nointerp(case.nearest, left, right);
+    };
+    let set = Measurements {
+        filters,
+        cartesian: &cartesian,
+        neighbours: &neighbours,
+    };
+    set.interpolate(case.nearest, position, left, right)
+}
+
+// Asks over the fronts of the lists, as long as the case has them, and prints the whole lists of the outputs.
+fn show(case: Case, delays: &[f32], left: &mut [f32], right: &mut [f32]) {
+    if delays.len() < case.delays || left.len() < case.left || right.len() < case.right {
+        return;
+    }
+    let o = filter(
+        case,
+        &delays[..case.delays],
+        &mut left[..case.left],
+        &mut right[..case.right],
     );
     print_answer(delays::answer_of(o));
     print_samples(b"left=", left);
     print_samples(b"right=", right);
 }
 
-// One case: sizes, how many delays there are, the nearest's number, the query, and how long the outputs are.
-fn ask(
-    plain: bool,
-    m: usize,
-    r: usize,
-    n: usize,
-    count: usize,
-    nearest: usize,
-    position: Point3,
-    ll: usize,
-    rl: usize,
-) {
-    let delays = delay_list();
+fn ask(case: Case) {
     let mut left = [9.0f32; 8];
     let mut right = [9.0f32; 8];
-    show(
-        plain, m, r, n, &delays, count, nearest, position, &mut left, ll, &mut right, rl,
-    );
+    show(case, &delay_list(), &mut left, &mut right);
 }
 
-// A case of the blend, and one of the plain filter, over the whole set.
-fn blend(name: &[u8], count: usize, nearest: usize, position: Point3, ll: usize, rl: usize) {
-    io::write_all(1, name);
-    ask(false, 7, 2, 3, count, nearest, position, ll, rl);
+// A case over the whole set.
+fn over_all(
+    delays: usize,
+    nearest: usize,
+    position: Option<Point3>,
+    left: usize,
+    right: usize,
+) -> Case {
+    Case {
+        m: 7,
+        r: 2,
+        n: 3,
+        delays,
+        nearest,
+        position,
+        left,
+        right,
+    }
 }
 
-fn plain(name: &[u8], count: usize, nearest: usize, ll: usize, rl: usize) {
+fn blend(name: &[u8], delays: usize, nearest: usize, position: Point3, left: usize, right: usize) {
     io::write_all(1, name);
-    ask(true, 7, 2, 3, count, nearest, at(5.0, 5.0, 5.0), ll, rl);
+    ask(over_all(delays, nearest, Some(position), left, right));
+}
+
+// One of the plain filter.
+fn plain(name: &[u8], delays: usize, nearest: usize, left: usize, right: usize) {
+    io::write_all(1, name);
+    ask(over_all(delays, nearest, None, left, right));
 }
 
 fn at(x: f32, y: f32, z: f32) -> Point3 {
@@ -306,9 +263,17 @@ fn delay_counts() {
     blend(b"L below R\n", 1, 2, q, 1, 1);
     blend(b"no delays\n", 0, 2, q, 1, 1);
     io::write_all(1, b"three receivers\n");
-    ask(false, 5, 3, 2, 15, 2, q, 1, 1);
+    ask(Case {
+        m: 5,
+        r: 3,
+        n: 2,
+        ..over_all(15, 2, Some(q), 1, 1)
+    });
     io::write_all(1, b"M = R = L = 2\n");
-    ask(false, 2, 2, 3, 2, 1, q, 1, 1);
+    ask(Case {
+        m: 2,
+        ..over_all(2, 1, Some(q), 1, 1)
+    });
 }
 
 fn plain_delay_counts() {
@@ -330,13 +295,19 @@ fn lengths() {
     plain(b"plain, infinite taps\n", 14, 4, 3, 3);
     let low = at(0.75, 0.0, -0.5);
     blend(b"NaN and infinite taps\n", 14, 0, low, 4, 4);
-    let unknown = at(0.0 / 0.0, 0.0, 0.0);
+    let unknown = at(f32::NAN, 0.0, 0.0);
     blend(b"a NaN query\n", 14, 0, unknown, 3, 3);
     blend(b"a NaN query, no delays\n", 1, 0, unknown, 3, 3);
     io::write_all(1, b"no taps\n");
-    ask(false, 7, 2, 0, 14, 3, q, 2, 2);
+    ask(Case {
+        n: 0,
+        ..over_all(14, 3, Some(q), 2, 2)
+    });
     io::write_all(1, b"plain, no taps\n");
-    ask(true, 7, 2, 0, 14, 3, q, 2, 2);
+    ask(Case {
+        n: 0,
+        ..over_all(14, 3, None, 2, 2)
+    });
 }
 
 fn main() {

@@ -3,36 +3,33 @@
 // list's written front was 7 in the links and 9 in the table.
 #![tactic(auto)]
 
-ghost use Rattle.std.specs.Prelude.{◌≤◌, length};
+ghost use Rattle.std.specs.Prelude.{◌≡◌, ◌≤◌, length};
 ghost use Rattle.neighbors.specs.Built.{BuiltBy};
 
-use limits::{Sizes, Verdict};
+use kdtree::Tree;
+use limits::Sizes;
 use lookup::{Located, Lookup};
+use neighbors::Steps;
 use points::Point3;
 
-fn point(xs: [f32; 27], k: usize, x: f32, y: f32, z: f32) -> [f32; 27] {
-    let mut ys = xs;
-    if k < 8 {
-        ys[3 * k] = x;
-        ys[3 * k + 1] = y;
-        ys[3 * k + 2] = z;
-    }
-    ys
-}
-
 fn cartesian() -> [f32; 27] {
-    let a = point([9.0; 27], 0, 1.0, 0.0, 0.0);
-    let b = point(a, 1, 0.0, 1.0, -0.0);
-    let c = point(b, 2, -1.0, -0.0, 0.0);
-    let d = point(c, 3, 0.0, 0.0, 1.0);
-    let e = point(d, 4, -0.0, 0.0, -1.0);
-    let f = point(e, 5, 2.0, 0.0, 0.0);
-    let g = point(f, 6, 0.75, 0.75, 0.0);
-    point(g, 7, 1.0, 0.0, 0.0)
+    [
+        1.0, 0.0, 0.0, //
+        0.0, 1.0, -0.0, //
+        -1.0, -0.0, 0.0, //
+        0.0, 0.0, 1.0, //
+        -0.0, 0.0, -1.0, //
+        2.0, 0.0, 0.0, //
+        0.75, 0.75, 0.0, //
+        1.0, 0.0, 0.0, //
+        9.0, 9.0, 9.0,
+    ]
 }
 
 // ---- printing
 
+// Printed through `io`, without a heap: a value by its bits, which no Display does.
+// `try_blends` prints a value by the like of this: a crate for one line would be no plainer.
 fn print_value(x: f32) {
     io::write_all(1, b" ");
     io::print_hex(1, floats::pattern(x) as u64, 8);
@@ -45,16 +42,10 @@ fn print_number(n: u64) {
 
 fn print_links(name: &[u8], xs: &[u16]) {
     io::write_all(1, name);
-    let mut i = 0;
-    while i < xs.len() {
-        print_number(wide(xs[i]));
-        i += 1;
+    for &n in xs {
+        print_number(u64::from(n));
     }
     io::write_all(1, b"\n");
-}
-
-fn wide(n: u16) -> u64 {
-    n as u64
 }
 
 fn print_point(p: Point3) {
@@ -67,12 +58,12 @@ fn print_answer(found: Located) {
     match found {
         Located::At(n) => {
             io::write_all(1, b" at");
-            print_number(wide(n));
+            print_number(u64::from(n));
         }
-        Located::Refused(number, place) => {
+        Located::Refused(refusal) => {
             io::write_all(1, b" refused");
-            print_number(number as u64);
-            print_number(place as u64);
+            print_number(refusal.number() as u64);
+            print_number(refusal.place() as u64);
         }
     }
 }
@@ -108,59 +99,74 @@ fn sizes(m: usize) -> Sizes {
     }
 }
 
-fn point_of(x: f32, y: f32, z: f32) -> Point3 {
-    Point3 { x, y, z }
+// What a find goes by. No Tree: sizes are tried that no Tree has.
+#[derive(Clone, Copy)]
+struct Set<'a> {
+    look: Lookup,
+    cart: &'a [f32],
+    left: &'a [u16],
+    right: &'a [u16],
 }
 
-// Both calls of one query: find, and find_mut with its coordinates afterwards.
-fn ask(look: Lookup, m: usize, cart: &[f32], left: &[u16], right: &[u16], q: Point3) {
-    io::write_all(1, b"query");
-    print_point(q);
-    print_answer(look.find(sizes(m), cart, left, right, q));
-    let mut moved = [q.x, q.y, q.z];
-    print_answer(look.find_mut(sizes(m), cart, left, right, &mut moved));
-    print_point(point_of(moved[0], moved[1], moved[2]));
-    io::write_all(1, b"\n");
-}
+impl<'a> Set<'a> {
+    // Both calls of one query: find, and find_mut with its coordinates afterwards.
+    fn ask(&self, m: usize, q: Point3) {
+        io::write_all(1, b"query");
+        print_point(q);
+        print_answer(
+            self.look
+                .find(sizes(m), self.cart, self.left, self.right, q),
+        );
+        let mut moved = <[f32; 3]>::from(q);
+        print_answer(
+            self.look
+                .find_mut(sizes(m), self.cart, self.left, self.right, &mut moved),
+        );
+        print_point(Point3::from(moved));
+        io::write_all(1, b"\n");
+    }
 
-fn queries(look: Lookup, cart: &[f32], left: &[u16], right: &[u16]) {
-    let zero = 0.0;
-    ask(look, 8, cart, left, right, point_of(0.0, 0.0, 0.0));
-    ask(look, 8, cart, left, right, point_of(0.5, 0.0, 0.0));
-    ask(look, 8, cart, left, right, point_of(4.0, 4.0, 0.5));
-    ask(look, 8, cart, left, right, point_of(0.0, 0.25, 9.0));
-    ask(look, 8, cart, left, right, point_of(-0.0, -0.0, -3.0));
-    ask(look, 8, cart, left, right, point_of(1.5, 0.0, 0.0));
-    ask(look, 8, cart, left, right, point_of(3e38, -3e38, 0.0));
-    ask(look, 8, cart, left, right, point_of(1e-23, 0.0, 0.0));
-    ask(look, 8, cart, left, right, point_of(1e-22, 0.0, 0.0));
-    ask(look, 8, cart, left, right, point_of(0.0, zero / zero, 0.0));
-    ask(look, 8, cart, left, right, point_of(0.0, 0.0, 1.0 / zero));
-    ask(look, 0, cart, left, right, point_of(zero / zero, 0.0, 0.0));
-    ask(look, 16385, cart, left, right, point_of(1.0, 0.0, 0.0));
-    ask(look, 10, cart, left, right, point_of(zero / zero, 0.0, 0.0));
-}
+    fn queries(&self) {
+        let asked = [
+            [0.0, 0.0, 0.0],
+            [0.5, 0.0, 0.0],
+            [4.0, 4.0, 0.5],
+            [0.0, 0.25, 9.0],
+            [-0.0, -0.0, -3.0],
+            [1.5, 0.0, 0.0],
+            [3e38, -3e38, 0.0],
+            [1e-23, 0.0, 0.0],
+            [1e-22, 0.0, 0.0],
+            [0.0, f32::NAN, 0.0],
+            [0.0, 0.0, f32::INFINITY],
+        ];
+        for q in asked {
+            self.ask(8, Point3::from(q));
+        }
+        let unknown = Point3::from([f32::NAN, 0.0, 0.0]);
+        self.ask(0, unknown);
+        self.ask(16385, Point3::from([1.0, 0.0, 0.0]));
+        self.ask(10, unknown);
+    }
 
-// A table is filled over links that were built, and over no others.
-fn table(look: Lookup, cart: &[f32], left: &[u16], right: &[u16], angle: f32, radius: f32)
-    requires { (24 ≤ length cart.now)
-        × (8 ≤ length left.now)
-        × (8 ≤ length right.now)
-        × BuiltBy look 8 cart.now left.now right.now }
-{
-    let mut near = [9u16; 51];
-    let told = neighbors::fill_neighbors(look, 8, cart, left, right, angle, radius, &mut near);
-    match told {
-        Verdict::Fine => print_links(b"table", &near),
-        Verdict::Refused(_, _) => print_links(b"stopped", &near),
+    // The links, and what is answered.
+    fn tried(&self) {
+        print_links(b"left", self.left);
+        print_links(b"right", self.right);
+        self.queries();
     }
 }
 
-// A set's links, and what it answers.
-fn try_set(look: Lookup, cart: &[f32], left: &[u16], right: &[u16]) {
-    print_links(b"left", left);
-    print_links(b"right", right);
-    queries(look, cart, left, right);
+// A table is filled over links that were built, and over no others.
+fn table(look: Lookup, tree: &Tree, steps: Steps)
+    requires { (tree.now.count ≡ 8)
+        × BuiltBy look tree.now.count tree.now.positions.now tree.now.left.now tree.now.right.now }
+{
+    let mut near = [9u16; 51];
+    match neighbors::fill_neighbors(look, tree, steps, &mut near) {
+        Ok(()) => print_links(b"table", &near),
+        Err(_) => print_links(b"stopped", &near),
+    }
 }
 
 // The set as it is built, and then with a link that leads back to its owner.
@@ -171,11 +177,43 @@ fn run(cart: &[f32], left: &mut [u16], right: &mut [u16])
 {
     let look = Lookup::new(cart, 8, left, right);
     print_bounds(look);
-    table(look, cart, left, right, 2.0, 0.25);
-    table(look, cart, left, right, 45.0, 1.0);
-    try_set(look, cart, left, right);
+    let tree = Tree {
+        count: 8,
+        positions: cart,
+        left,
+        right,
+    };
+    table(
+        look,
+        &tree,
+        Steps {
+            angle: 2.0,
+            radius: 0.25,
+        },
+    );
+    table(
+        look,
+        &tree,
+        Steps {
+            angle: 45.0,
+            radius: 1.0,
+        },
+    );
+    let built = Set {
+        look,
+        cart,
+        left,
+        right,
+    };
+    built.tried();
     right[0] = 0;
-    try_set(look, cart, left, right);
+    let around = Set {
+        look,
+        cart,
+        left,
+        right,
+    };
+    around.tried();
 }
 
 fn main() {

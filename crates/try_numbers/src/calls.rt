@@ -31,12 +31,8 @@ fn lent(
     }
 }
 
-fn point(x: u32, y: u32, z: u32) -> Point3 {
-    Point3 {
-        x: floats::value(x),
-        y: floats::value(y),
-        z: floats::value(z),
-    }
+pub fn point(x: u32, y: u32, z: u32) -> Point3 {
+    Point3::from([floats::value(x), floats::value(y), floats::value(z)])
 }
 
 fn lengths(l: Lengths) {
@@ -49,6 +45,7 @@ fn lengths(l: Lengths) {
     show::decimal(l.neighbours);
 }
 
+// A kind is a number, as `judge_load` takes it, so that unknown ones are tried too.
 // One position, of the kind.
 fn load(kind: u32, m: usize, l: Lengths, p: Point3, astep: u32, rstep: u32, rate: u32) {
     let a = floats::value(astep);
@@ -62,7 +59,7 @@ fn load(kind: u32, m: usize, l: Lengths, p: Point3, astep: u32, rstep: u32, rate
     show::hex3(p.x, p.y, p.z);
     show::word(b" steps and rate");
     show::hex3(a, b, c);
-    let xs = [p.x, p.y, p.z];
+    let xs = <[f32; 3]>::from(p);
     show::verdict(limits::judge_load(kind, sized(m), l, &xs, a, b, c));
 }
 

@@ -1,16 +1,12 @@
 // The leaves on odd values: zeros, subnormals, ends of ranges, infinities, NaN; each alone, and each with each.
 use crate::show;
-use angles::AngleAnswer;
+use refusals::Refusal;
 
-fn answer(name: &[u8], a: AngleAnswer) {
+fn answer(name: &[u8], a: Result<f32, Refusal>) {
     show::word(name);
     match a {
-        AngleAnswer::Value(v) => show::hex(v),
-        AngleAnswer::Refused(number, place) => {
-            show::word(b" refused");
-            show::decimal(number as usize);
-            show::decimal(place);
-        }
+        Ok(v) => show::hex(v),
+        Err(r) => show::refusal(r),
     }
 }
 
@@ -46,8 +42,8 @@ fn pair(a: u32, b: u32) {
     show::end();
 }
 
-fn odd() -> [u32; 16] {
-    [
+pub fn tries() {
+    let odd = [
         0x0000_0000,
         0x8000_0000,
         0x0000_0001,
@@ -64,26 +60,13 @@ fn odd() -> [u32; 16] {
         0x7f80_0000,
         0xff80_0000,
         0x7fc0_0000,
-    ]
-}
-
-fn each_alone(values: [u32; 16]) {
-    let mut k = 0;
-    while k < 16 {
-        alone(values[k]);
-        k += 1;
+    ];
+    for bits in odd {
+        alone(bits);
     }
-}
-
-fn each_pair(values: [u32; 16]) {
-    let mut k = 0;
-    while k < 256 {
-        pair(values[k / 16], values[k % 16]);
-        k += 1;
+    for a in odd {
+        for b in odd {
+            pair(a, b);
+        }
     }
-}
-
-pub fn tries() {
-    each_alone(odd());
-    each_pair(odd());
 }

@@ -15,22 +15,27 @@ fn position(bits: u32) {
 }
 
 fn positions() {
-    position(0x0000_0000);
-    position(0x8000_0000);
-    position(0x0000_0001);
-    position(0x8000_0001);
-    position(0x4434_0000);
-    position(0x4434_0001);
-    position(0xc434_0000);
-    position(0xc434_0001);
-    position(0x461c_4000);
-    position(0x461c_4001);
-    position(0xc61c_4000);
-    position(0xc61c_4001);
-    position(0x7f7f_ffff);
-    position(0x7f80_0000);
-    position(0xff80_0000);
-    position(0x7fc0_0000);
+    let tried = [
+        0x0000_0000,
+        0x8000_0000,
+        0x0000_0001,
+        0x8000_0001,
+        0x4434_0000,
+        0x4434_0001,
+        0xc434_0000,
+        0xc434_0001,
+        0x461c_4000,
+        0x461c_4001,
+        0xc61c_4000,
+        0xc61c_4001,
+        0x7f7f_ffff,
+        0x7f80_0000,
+        0xff80_0000,
+        0x7fc0_0000,
+    ];
+    for bits in tried {
+        position(bits);
+    }
 }
 
 fn number(bits: u32) {
@@ -44,22 +49,27 @@ fn number(bits: u32) {
 }
 
 fn numbers() {
-    number(0x3dcc_cccd);
-    number(0x3dcc_cccc);
-    number(0x4234_0000);
-    number(0x4234_0001);
-    number(0x3a83_126f);
-    number(0x3a83_126e);
-    number(0x3f80_0000);
-    number(0x3f80_0001);
-    number(0x447a_0000);
-    number(0x4479_ffff);
-    number(0x48bb_8000);
-    number(0x48bb_8001);
-    number(0x8000_0000);
-    number(0x0000_0001);
-    number(0x7f80_0000);
-    number(0x7fc0_0000);
+    let tried = [
+        0x3dcc_cccd,
+        0x3dcc_cccc,
+        0x4234_0000,
+        0x4234_0001,
+        0x3a83_126f,
+        0x3a83_126e,
+        0x3f80_0000,
+        0x3f80_0001,
+        0x447a_0000,
+        0x4479_ffff,
+        0x48bb_8000,
+        0x48bb_8001,
+        0x8000_0000,
+        0x0000_0001,
+        0x7f80_0000,
+        0x7fc0_0000,
+    ];
+    for bits in tried {
+        number(bits);
+    }
 }
 
 // Lists of the greatest length there is: only the sizes can be refused.
@@ -75,11 +85,7 @@ fn sizes(m: usize, c: usize, r: usize, n: usize) {
         left: long,
         right: long,
     };
-    let q = Point3 {
-        x: 0.0,
-        y: 0.0,
-        z: 0.0,
-    };
+    let q = Point3::from([0.0; 3]);
     show::verdict(limits::judge_find(Sizes { m, c, r, n }, t, q));
 }
 

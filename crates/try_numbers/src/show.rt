@@ -1,5 +1,6 @@
 // What a line is made of: words, numbers, values by their bits, answers.
-use limits::Verdict;
+// By `io`, without a heap: a value is printed by its bits, which no Display does.
+use refusals::Refusal;
 
 pub fn word(s: &[u8]) {
     io::write_all(1, s);
@@ -18,10 +19,8 @@ pub fn hex3(x: f32, y: f32, z: f32) {
 
 // The values of a list.
 pub fn all(xs: &[f32]) {
-    let mut i = 0;
-    while i < xs.len() {
-        hex(xs[i]);
-        i += 1;
+    for &x in xs {
+        hex(x);
     }
 }
 
@@ -44,13 +43,17 @@ pub fn end() {
     word(b"\n");
 }
 
-pub fn verdict(v: Verdict) {
-    let Verdict::Fine = v else {
-        word(b": refused");
-        decimal(limits::reason(v) as usize);
-        decimal(limits::place(v));
-        end();
-        return;
-    };
-    word(b": fine\n");
+pub fn refusal(r: Refusal) {
+    word(b" refused");
+    decimal(r.number() as usize);
+    decimal(r.place());
+}
+
+pub fn verdict(v: Result<(), Refusal>) {
+    word(b":");
+    match v {
+        Ok(()) => word(b" fine"),
+        Err(r) => refusal(r),
+    }
+    end();
 }

@@ -1,8 +1,8 @@
 // Single triplets of odd values, and lent lists of every length from 0 to 9 inside a longer one.
-use crate::show;
+use crate::{calls, show};
 use coords::Spherical;
-use limits::Verdict;
 use points::Point3;
+use refusals::Refusal;
 
 fn point(p: Point3) {
     show::hex3(p.x, p.y, p.z);
@@ -10,11 +10,7 @@ fn point(p: Point3) {
 
 // A point's radius, its spherical triplet, and that one taken back.
 fn there_and_back(x: u32, y: u32, z: u32) {
-    let p = Point3 {
-        x: floats::value(x),
-        y: floats::value(y),
-        z: floats::value(z),
-    };
+    let p = calls::point(x, y, z);
     let s = coords::cartesian_to_spherical(p);
     show::word(b"cartesian");
     point(p);
@@ -68,7 +64,7 @@ fn directions_tried() {
 }
 
 // The length, the verdict, and the whole of the longer list.
-fn row(name: &[u8], n: usize, v: Verdict, xs: &[f32]) {
+fn row(name: &[u8], n: usize, v: Result<(), Refusal>, xs: &[f32]) {
     show::word(name);
     show::decimal(n);
     show::all(xs);
@@ -76,64 +72,49 @@ fn row(name: &[u8], n: usize, v: Verdict, xs: &[f32]) {
 }
 
 // The first n of the list are lent.
-fn first_to_spherical(xs: &mut [f32], n: usize) {
+fn convert_first<F: FnOnce(&mut [f32]) -> Result<(), Refusal>>(
+    name: &[u8],
+    xs: &mut [f32],
+    n: usize,
+    convert: F,
+)
+    requires { F.IsAlwaysCallable convert }
+{
     if xs.len() < n {
         return;
     }
-    let v = coords::convert_array_to_spherical(&mut xs[..n]);
-    row(b"to spherical", n, v, xs);
+    let v = convert(&mut xs[..n]);
+    row(name, n, v, xs);
 }
 
-fn first_to_cartesian(xs: &mut [f32], n: usize) {
-    if xs.len() < n {
-        return;
+// Every length, each time from the whole list anew.
+fn lists<F: Fn(&mut [f32]) -> Result<(), Refusal>>(name: &[u8], whole: [f32; 10], convert: F)
+    requires { F.IsAlwaysCallable convert }
+{
+    for n in 0..10 {
+        let mut xs = whole;
+        convert_first(name, &mut xs, n, &convert);
     }
-    let v = coords::convert_array_to_cartesian(&mut xs[..n]);
-    row(b"to cartesian", n, v, xs);
 }
 
 // The value at 7 is not allowed: it is met at length 9, and left over at 8. The one at 9 is never lent.
-fn to_spherical(n: usize) {
-    let mut xs = [1.0, 1.0, 1.0, -1.0, 0.5, -0.0, 2.0, 10000.5, 0.0, -7.0];
-    first_to_spherical(&mut xs, n);
-}
-
-fn to_cartesian(n: usize) {
-    let mut xs = [
-        90.0, 0.0, 1.0, 720.0, -45.0, 10000.0, -0.0, 721.0, 0.0, -7.0,
-    ];
-    first_to_cartesian(&mut xs, n);
-}
-
-fn lists_spherical() {
-    to_spherical(0);
-    to_spherical(1);
-    to_spherical(2);
-    to_spherical(3);
-    to_spherical(4);
-    to_spherical(5);
-    to_spherical(6);
-    to_spherical(7);
-    to_spherical(8);
-    to_spherical(9);
-}
-
-fn lists_cartesian() {
-    to_cartesian(0);
-    to_cartesian(1);
-    to_cartesian(2);
-    to_cartesian(3);
-    to_cartesian(4);
-    to_cartesian(5);
-    to_cartesian(6);
-    to_cartesian(7);
-    to_cartesian(8);
-    to_cartesian(9);
+fn lists_tried() {
+    lists(
+        b"to spherical",
+        [1.0, 1.0, 1.0, -1.0, 0.5, -0.0, 2.0, 10000.5, 0.0, -7.0],
+        coords::convert_array_to_spherical,
+    );
+    lists(
+        b"to cartesian",
+        [
+            90.0, 0.0, 1.0, 720.0, -45.0, 10000.0, -0.0, 721.0, 0.0, -7.0,
+        ],
+        coords::convert_array_to_cartesian,
+    );
 }
 
 pub fn tries() {
     points_tried();
     directions_tried();
-    lists_spherical();
-    lists_cartesian();
+    lists_tried();
 }

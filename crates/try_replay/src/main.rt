@@ -7,23 +7,32 @@
 
 use delays::Outcome;
 use kdtree::BoundingBox;
-use limits::{Sizes, Verdict};
-use loads::Loaded;
+use limits::Sizes;
 use lookup::{Located, Lookup};
+use mix::Ear;
 use points::Point3;
-use stored::{Around, MaxDelay, Part};
-use text::Num;
+use reader::{Recorded, Set};
+use refusals::Refusal;
+use stored::{Entries, Taps};
 
-// Where the next word stands, whether the answer is as stored so far, and the counts.
+// How many answers were compared, and how many differ.
 #[derive(Clone, Copy)]
-pub struct Tape {
-    pub at: usize,
-    pub same: bool,
+pub struct Counts {
     pub answers: u64,
     pub differ: u64,
 }
 
+// The words of a record, where the next one stands, whether the answer is as stored so far, and the counts.
+#[derive(Clone, Copy)]
+pub struct Tape<'a> {
+    pub words: &'a [u32],
+    pub at: usize,
+    pub same: bool,
+    pub counts: Counts,
+}
+
 // What a set is given beside its lists, and how long these are.
+// The kind is a number, as the record has it and `load` takes it, with all unknown values.
 #[derive(Clone, Copy)]
 pub struct Given {
     pub kind: u32,
@@ -38,11 +47,9 @@ pub struct Given {
 
 // ---- the words of a record
 
+// Words by their places, before there is a tape of them; past the end each is 0, and no Option, as a record has it.
 fn word(w: &[u32], i: usize) -> u32 {
-    if i < w.len() {
-        return w[i];
-    }
-    0
+    if i < w.len() { w[i] } else { 0 }
 }
 
 fn count(w: &[u32], i: usize) -> usize {
@@ -51,19 +58,15 @@ fn count(w: &[u32], i: usize) -> usize {
 
 // No record is near 2^32 words long.
 fn past(at: usize, n: usize) -> usize {
-    if at <= 0xffff_ffff {
-        if n <= 0xffff_ffff {
-            return at + n;
-        }
+    if at <= 0xffff_ffff && n <= 0xffff_ffff {
+        at + n
+    } else {
+        at
     }
-    at
 }
 
 fn one_more(n: u64) -> u64 {
-    if n < 0xffff_ffff {
-        return n + 1;
-    }
-    n
+    if n < 0xffff_ffff { n + 1 } else { n }
 }
 
 fn value(w: &[u32], i: usize) -> f32 {
@@ -71,122 +74,95 @@ fn value(w: &[u32], i: usize) -> f32 {
 }
 
 // The values from a place on; a list is a part of them.
+// A fixed list, of which `front` lends as much as the record has: there is no heap.
 fn values(w: &[u32], at: usize) -> [f32; 288] {
-    let mut xs = [0.0f32; 288];
-    let mut i = 0;
-    while i < 288 {
-        xs[i] = value(w, past(at, i));
-        i += 1;
+    let mut xs = [0.0; 288];
+    for (i, x) in xs.iter_mut().enumerate() {
+        *x = value(w, past(at, i));
     }
     xs
 }
 
 // The first n of a list; none of a shorter one.
-fn front(xs: &[f32], n: usize) -> &[f32] {
-    if n <= xs.len() {
-        return &xs[..n];
-    }
-    &xs[..0]
-}
-
-fn front_links(xs: &[u16], n: usize) -> &[u16] {
-    if n <= xs.len() {
-        return &xs[..n];
-    }
-    &xs[..0]
-}
-
-fn front_words(xs: &[u32], n: usize) -> &[u32] {
-    if n <= xs.len() {
-        return &xs[..n];
-    }
-    &xs[..0]
-}
-
-fn front_bytes(xs: &[u8], n: usize) -> &[u8] {
-    if n <= xs.len() {
-        return &xs[..n];
-    }
-    &xs[..0]
-}
-
-fn point(w: &[u32], at: usize) -> Point3 {
-    Point3 {
-        x: value(w, at),
-        y: value(w, past(at, 1)),
-        z: value(w, past(at, 2)),
-    }
+fn front<T>(xs: &[T], n: usize) -> &[T] {
+    if n <= xs.len() { &xs[..n] } else { &xs[..0] }
 }
 
 // ---- comparing
 
-fn moved(t: Tape, n: usize) -> Tape {
-    Tape {
-        at: past(t.at, n),
-        same: t.same,
-        answers: t.answers,
-        differ: t.differ,
+impl<'a> Tape<'a> {
+    fn number(self) -> usize {
+        count(self.words, self.at)
     }
-}
 
-fn agrees(t: Tape, ok: bool) -> Tape {
-    Tape {
-        at: past(t.at, 1),
-        same: t.same & ok,
-        answers: t.answers,
-        differ: t.differ,
+    fn value(self) -> f32 {
+        value(self.words, self.at)
     }
-}
 
-// The answer is over.
-fn told(t: Tape) -> Tape {
-    let differ = if t.same { t.differ } else { one_more(t.differ) };
-    Tape {
-        at: t.at,
-        same: true,
-        answers: one_more(t.answers),
-        differ: differ,
+    fn point(self) -> Point3 {
+        Point3::from([self.value(), self.moved(1).value(), self.moved(2).value()])
     }
-}
 
-fn is_number(w: &[u32], t: Tape, n: usize) -> Tape {
-    agrees(t, count(w, t.at) == n)
-}
-
-fn is_value(w: &[u32], t: Tape, x: f32) -> Tape {
-    agrees(t, word(w, t.at) == floats::pattern(x))
-}
-
-fn are_values(w: &[u32], t: Tape, xs: &[f32]) -> Tape {
-    let mut s = t;
-    let mut i = 0;
-    while i < xs.len() {
-        s = is_value(w, s, xs[i]);
-        i += 1;
+    fn moved(self, n: usize) -> Self {
+        Tape {
+            at: past(self.at, n),
+            ..self
+        }
     }
-    s
-}
 
-fn are_three(w: &[u32], t: Tape, xs: &[f32; 3]) -> Tape {
-    is_value(w, is_value(w, is_value(w, t, xs[0]), xs[1]), xs[2])
-}
-
-fn wide(n: u16) -> usize {
-    n as usize
-}
-
-fn are_numbers(w: &[u32], t: Tape, xs: &[u16]) -> Tape {
-    let mut s = t;
-    let mut i = 0;
-    while i < xs.len() {
-        s = is_number(w, s, wide(xs[i]));
-        i += 1;
+    fn agrees(self, ok: bool) -> Self {
+        Tape {
+            same: self.same & ok,
+            ..self.moved(1)
+        }
     }
-    s
-}
 
-fn is_refusal(w: &[u32], t: Tape, reason: u32, place: usize) -> Tape {
-    is_number(w, is_number(w, t, reason as usize), place)
+    // The answer is over.
+    fn told(self) -> Self {
+        let Counts { answers, differ } = self.counts;
+        let counts = Counts {
+            answers: one_more(answers),
+            differ: if self.same { differ } else { one_more(differ) },
+        };
+        Tape {
+            same: true,
+            counts,
+            ..self
+        }
+    }
+
+    fn is_number(self, n: usize) -> Self {
+        self.agrees(self.number() == n)
+    }
+
+    fn is_value(self, x: f32) -> Self {
+        self.agrees(word(self.words, self.at) == floats::pattern(x))
+    }
+
+    // Two functions: a value is compared by its bits, a number by itself; a trait for both would be no plainer.
+    fn are_values(self, xs: &[f32]) -> Self {
+        let mut t = self;
+        for &x in xs {
+            t = t.is_value(x);
+        }
+        t
+    }
+
+    fn are_numbers(self, xs: &[u16]) -> Self {
+        let mut t = self;
+        for &n in xs {
+            t = t.is_number(n as usize);
+        }
+        t
+    }
+
+    fn is_allowed(self) -> Self {
+        self.is_number(0).is_number(0)
+    }
+
+    fn is_refusal(self, r: Refusal) -> Self {
+        self.is_number(r.number() as usize).is_number(r.place())
+    }
 }
 
 // ---- the load
@@ -228,344 +204,188 @@ fn nothing() -> Lookup {
     }
 }
 
-fn look_of(a: Loaded) -> Lookup {
-    match a {
-        Loaded::Ready(look) => look,
-        Loaded::Refused(_reason, _place) => nothing(),
-    }
+fn is_look(t: Tape, look: Lookup) -> Tape {
+    let b = look.bounds;
+    t.are_values(&[b.min_x, b.min_y, b.min_z, b.max_x, b.max_y, b.max_z])
+        .are_values(&[look.phi_min, look.phi_max, look.theta_min, look.theta_max])
+        .are_values(&[look.radius_min, look.radius_max])
 }
 
-fn is_box(w: &[u32], t: Tape, b: BoundingBox) -> Tape {
-    let low = is_value(w, is_value(w, is_value(w, t, b.min_x), b.min_y), b.min_z);
-    is_value(w, is_value(w, is_value(w, low, b.max_x), b.max_y), b.max_z)
-}
-
-fn is_look(w: &[u32], t: Tape, look: Lookup) -> Tape {
-    let corners = look.bounds;
-    let a = is_box(w, t, corners);
-    let b = is_value(w, is_value(w, a, look.phi_min), look.phi_max);
-    let c = is_value(w, is_value(w, b, look.theta_min), look.theta_max);
-    is_value(w, is_value(w, c, look.radius_min), look.radius_max)
-}
-
-fn is_loaded(w: &[u32], t: Tape, a: Loaded) -> Tape {
-    match a {
-        Loaded::Ready(look) => is_look(w, is_refusal(w, t, 0, 0), look),
-        Loaded::Refused(reason, place) => is_look(w, is_refusal(w, t, reason, place), nothing()),
+fn is_loaded(t: Tape, loaded: Result<Lookup, Refusal>) -> Tape {
+    match loaded {
+        Ok(look) => is_look(t.is_allowed(), look),
+        Err(r) => is_look(t.is_refusal(r), nothing()),
     }
 }
 
 // The four lists, as far as the record has them.
-fn are_lists(
-    w: &[u32],
-    t: Tape,
+fn are_lists<'a>(
+    t: Tape<'a>,
     left: &[u16],
     right: &[u16],
     neighbours: &[u16],
     cartesian: &[f32],
-) -> Tape {
-    let m = count(w, t.at);
+) -> Tape<'a> {
+    let m = t.number();
     if 8 < m {
-        return agrees(t, false);
+        return t.agrees(false);
     }
-    let a = are_numbers(w, moved(t, 1), front_links(left, m));
-    let b = are_numbers(w, a, front_links(right, m));
-    let c = are_numbers(w, b, front_links(neighbours, 6 * m));
-    are_values(w, c, front(cartesian, 3 * m))
+    t.moved(1)
+        .are_numbers(front(left, m))
+        .are_numbers(front(right, m))
+        .are_numbers(front(neighbours, 6 * m))
+        .are_values(front(cartesian, 3 * m))
 }
 
 // ---- queries
 
-fn is_found(w: &[u32], t: Tape, a: Located) -> Tape {
-    match a {
-        Located::At(n) => is_number(w, is_refusal(w, t, 0, 0), n as usize),
-        Located::Refused(reason, place) => is_number(w, is_refusal(w, t, reason, place), 65535),
-    }
+// A set that was loaded, and its table.
+#[derive(Clone, Copy)]
+struct Loaded<'a> {
+    set: Set<'a>,
+    neighbours: &'a [u16],
 }
 
-fn one_if(b: bool) -> usize {
-    if b { 1 } else { 0 }
-}
-
-fn is_filtered(w: &[u32], t: Tape, o: Outcome, left: &[f32; 3], right: &[f32; 3]) -> Tape {
-    let a = delays::answer_of(o);
-    let s = is_refusal(w, t, a.reason, a.place);
-    let p = is_number(w, is_number(w, s, one_if(a.blended)), a.points);
-    let l = a.left;
-    let r = a.right;
-    let d = is_value(w, is_value(w, p, l.0), r.0);
-    told(are_three(w, are_three(w, d, left), right))
-}
-
-fn blend(
-    w: &[u32],
-    t: Tape,
-    g: Given,
-    look: Lookup,
-    cartesian: &[f32],
-    left: &[u16],
-    right: &[u16],
-    neighbours: &[u16],
-    responses: &[f32],
-    delays: &[f32],
-    q: Point3,
-) -> Tape {
-    let mut l = [1.0f32; 3];
-    let mut r = [1.0f32; 3];
-    let o = reader::filter(
-        g.sizes, look, cartesian, left, right, neighbours, responses, delays, g.rate, q, &mut l,
-        &mut r,
-    );
-    is_filtered(w, t, o, &l, &r)
-}
-
-fn plain(
-    w: &[u32],
-    t: Tape,
-    g: Given,
-    look: Lookup,
-    cartesian: &[f32],
-    left: &[u16],
-    right: &[u16],
-    responses: &[f32],
-    delays: &[f32],
-    q: Point3,
-) -> Tape {
-    let mut l = [1.0f32; 3];
-    let mut r = [1.0f32; 3];
-    let o = reader::filter_nointerp(
-        g.sizes, look, cartesian, left, right, responses, delays, g.rate, q, &mut l, &mut r,
-    );
-    is_filtered(w, t, o, &l, &r)
-}
-
-fn find(
-    w: &[u32],
-    t: Tape,
-    g: Given,
-    look: Lookup,
-    cartesian: &[f32],
-    left: &[u16],
-    right: &[u16],
-    q: Point3,
-) -> Tape {
-    let found = told(is_found(w, t, look.find(g.sizes, cartesian, left, right, q)));
-    let mut c = [q.x, q.y, q.z];
-    let a = look.find_mut(g.sizes, cartesian, left, right, &mut c);
-    told(are_three(w, is_found(w, found, a), &c))
-}
-
-fn query(
-    w: &[u32],
-    t: Tape,
-    g: Given,
-    look: Lookup,
-    cartesian: &[f32],
-    left: &[u16],
-    right: &[u16],
-    neighbours: &[u16],
-    responses: &[f32],
-    delays: &[f32],
-) -> Tape {
-    let q = point(w, t.at);
-    let found = find(w, moved(t, 3), g, look, cartesian, left, right, q);
-    let mixed = blend(
-        w, found, g, look, cartesian, left, right, neighbours, responses, delays, q,
-    );
-    plain(
-        w, mixed, g, look, cartesian, left, right, responses, delays, q,
-    )
-}
-
-fn queries(
-    w: &[u32],
-    t: Tape,
-    g: Given,
-    look: Lookup,
-    cartesian: &[f32],
-    left: &[u16],
-    right: &[u16],
-    neighbours: &[u16],
-    responses: &[f32],
-    delays: &[f32],
-) -> Tape {
-    let n = word(w, t.at);
-    let mut s = moved(t, 1);
-    let mut i = 0;
-    while i < n {
-        s = query(
-            w, s, g, look, cartesian, left, right, neighbours, responses, delays,
-        );
-        i += 1;
+// A step for each of as many as the tape says.
+fn each<'a, F: Fn(Tape<'a>) -> Tape<'a>>(t: Tape<'a>, step: F) -> Tape<'a>
+    requires { F.IsAlwaysCallable step }
+{
+    let mut s = t.moved(1);
+    for _ in 0..t.number() {
+        s = step(s);
     }
     s
+}
+
+fn is_found(t: Tape, found: Located) -> Tape {
+    match found {
+        Located::At(n) => t.is_allowed().is_number(n as usize),
+        Located::Refused(r) => t.is_refusal(r).is_number(65535),
+    }
+}
+
+fn is_filtered<'a>(t: Tape<'a>, o: Outcome, left: &[f32; 3], right: &[f32; 3]) -> Tape<'a> {
+    let a = delays::answer_of(o);
+    t.is_number(a.reason as usize)
+        .is_number(a.place)
+        .is_number(usize::from(a.blended))
+        .is_number(a.points)
+        .are_values(&[a.left.0, a.right.0])
+        .are_values(left)
+        .are_values(right)
+        .told()
+}
+
+fn find<'a>(t: Tape<'a>, set: &Set, q: Point3) -> Tape<'a> {
+    let sizes = set.recorded.sizes;
+    let found = set.look.find(sizes, set.cartesian, set.left, set.right, q);
+    let mut c = <[f32; 3]>::from(q);
+    let moved = set
+        .look
+        .find_mut(sizes, set.cartesian, set.left, set.right, &mut c);
+    is_found(is_found(t, found).told(), moved)
+        .are_values(&c)
+        .told()
+}
+
+// `plain` and `single` are the like of this, and differ in the call that they try.
+fn blend<'a>(t: Tape<'a>, loaded: &Loaded, q: Point3) -> Tape<'a> {
+    let mut l = [1.0; 3];
+    let mut r = [1.0; 3];
+    let o = loaded.set.filter(loaded.neighbours, q, &mut l, &mut r);
+    is_filtered(t, o, &l, &r)
+}
+
+fn plain<'a>(t: Tape<'a>, set: &Set, q: Point3) -> Tape<'a> {
+    let mut l = [1.0; 3];
+    let mut r = [1.0; 3];
+    let o = set.filter_nointerp(q, &mut l, &mut r);
+    is_filtered(t, o, &l, &r)
+}
+
+fn query<'a>(t: Tape<'a>, loaded: &Loaded) -> Tape<'a> {
+    let q = t.point();
+    let found = find(t.moved(3), &loaded.set, q);
+    plain(blend(found, loaded, q), &loaded.set, q)
 }
 
 // ---- by number
 
-fn is_part(w: &[u32], t: Tape, a: Part, taps: &[f32]) -> Tape {
-    match a {
-        Part::Taps(start, n) => told(are_values(
-            w,
-            is_number(w, is_number(w, is_refusal(w, t, 0, 0), start), n),
-            taps,
-        )),
-        Part::Refused(reason, place) => told(are_values(
-            w,
-            is_number(w, is_number(w, is_refusal(w, t, reason, place), 0), 0),
-            taps,
-        )),
-    }
+fn is_part<'a>(t: Tape<'a>, part: Result<Taps, Refusal>, taps: &[f32]) -> Tape<'a> {
+    let placed = match part {
+        Ok(p) => t.is_allowed().is_number(p.start).is_number(p.count),
+        Err(r) => t.is_refusal(r).is_number(0).is_number(0),
+    };
+    placed.are_values(taps).told()
 }
 
-fn are_parts(w: &[u32], t: Tape, g: Given, responses: &[f32], number: usize) -> Tape {
-    let n = responses.len();
-    let left = is_part(
-        w,
-        t,
-        stored::left_part(g.sizes, n, number),
-        stored::left_response(g.sizes, responses, number),
-    );
+fn is_ear<'a>(t: Tape<'a>, set: Recorded, number: usize, ear: Ear) -> Tape<'a> {
+    let part = stored::part_of(set.sizes, set.responses.len(), number, ear);
     is_part(
-        w,
-        left,
-        stored::right_part(g.sizes, n, number),
-        stored::right_response(g.sizes, responses, number),
+        t,
+        part,
+        stored::response(set.sizes, set.responses, number, ear),
     )
 }
 
-fn is_six(w: &[u32], t: Tape, a: u16, b: u16, c: u16, d: u16, e: u16, f: u16) -> Tape {
-    let low = is_number(
-        w,
-        is_number(w, is_number(w, t, a as usize), b as usize),
-        c as usize,
-    );
-    is_number(
-        w,
-        is_number(w, is_number(w, low, d as usize), e as usize),
-        f as usize,
-    )
-}
-
-fn is_around(w: &[u32], t: Tape, a: Around) -> Tape {
-    match a {
-        Around::Six(e) => is_six(
-            w,
-            is_refusal(w, t, 0, 0),
-            e.phi_plus,
-            e.phi_minus,
-            e.theta_plus,
-            e.theta_minus,
-            e.radius_plus,
-            e.radius_minus,
-        ),
-        Around::Refused(reason, place) => is_six(
-            w,
-            is_refusal(w, t, reason, place),
-            65535,
-            65535,
-            65535,
-            65535,
-            65535,
-            65535,
-        ),
+fn is_around(t: Tape, around: Result<Entries, Refusal>) -> Tape {
+    match around {
+        Ok(e) => t
+            .is_allowed()
+            .are_numbers(&[e.phi_plus, e.phi_minus, e.theta_plus])
+            .are_numbers(&[e.theta_minus, e.radius_plus, e.radius_minus]),
+        Err(r) => t.is_refusal(r).are_numbers(&[65535; 6]),
     }
 }
 
-fn single(w: &[u32], t: Tape, g: Given, responses: &[f32], delays: &[f32], number: usize) -> Tape {
-    let mut l = [1.0f32; 3];
-    let mut r = [1.0f32; 3];
-    let o = reader::filter_number(g.sizes, responses, delays, g.rate, number, &mut l, &mut r);
-    is_filtered(w, t, o, &l, &r)
+fn single<'a>(t: Tape<'a>, set: Recorded, number: usize) -> Tape<'a> {
+    let mut l = [1.0; 3];
+    let mut r = [1.0; 3];
+    let o = set.filter_number(number, &mut l, &mut r);
+    is_filtered(t, o, &l, &r)
 }
 
-fn by_number(
-    w: &[u32],
-    t: Tape,
-    g: Given,
-    neighbours: &[u16],
-    responses: &[f32],
-    delays: &[f32],
-) -> Tape {
-    let number = count(w, t.at);
-    let one = single(w, moved(t, 1), g, responses, delays, number);
-    let parts = are_parts(w, one, g, responses, number);
-    told(is_around(w, parts, stored::neighbors_of(g.sizes, neighbours, number)))
-}
-
-fn by_numbers(
-    w: &[u32],
-    t: Tape,
-    g: Given,
-    neighbours: &[u16],
-    responses: &[f32],
-    delays: &[f32],
-) -> Tape {
-    let n = word(w, t.at);
-    let mut s = moved(t, 1);
-    let mut i = 0;
-    while i < n {
-        s = by_number(w, s, g, neighbours, responses, delays);
-        i += 1;
-    }
-    s
+fn by_number<'a>(t: Tape<'a>, loaded: &Loaded) -> Tape<'a> {
+    let set = loaded.set.recorded;
+    let number = t.number();
+    let one = single(t.moved(1), set, number);
+    let left = is_ear(one, set, number, Ear::Left);
+    let right = is_ear(left, set, number, Ear::Right);
+    let around = stored::neighbors_of(set.sizes, loaded.neighbours, number);
+    is_around(right, around).told()
 }
 
 // ---- the longest delay, and the conversions
 
-fn is_longest(w: &[u32], t: Tape, delays: &[f32]) -> Tape {
-    let rate = value(w, t.at);
-    let s = moved(t, 1);
-    match stored::max_delay(delays, rate) {
-        MaxDelay::Delay(seconds) => told(is_value(w, is_refusal(w, s, 0, 0), seconds.0)),
-        MaxDelay::Refused(reason, place) => told(is_value(w, is_refusal(w, s, reason, place), 0.0)),
-    }
-}
-
-fn convert(kind: u32, values: &mut [f32]) -> Verdict {
-    match kind {
-        0 => coords::convert_array_to_spherical(values),
-        _ => coords::convert_array_to_cartesian(values),
+fn is_longest<'a>(t: Tape<'a>, delays: &[f32]) -> Tape<'a> {
+    let s = t.moved(1);
+    match stored::max_delay(delays, t.value()) {
+        Ok(longest) => s.is_allowed().is_value(longest.0).told(),
+        Err(r) => s.is_refusal(r).is_value(0.0).told(),
     }
 }
 
 // Two triplets and two values left over.
-fn is_converted(w: &[u32], t: Tape, kind: u32) -> Tape {
-    let at = t.at;
-    let mut xs = [
-        value(w, at),
-        value(w, past(at, 1)),
-        value(w, past(at, 2)),
-        value(w, past(at, 3)),
-        value(w, past(at, 4)),
-        value(w, past(at, 5)),
-        value(w, past(at, 6)),
-        value(w, past(at, 7)),
-    ];
-    let v = convert(kind, &mut xs);
-    let s = is_refusal(w, moved(t, 8), limits::reason(v), limits::place(v));
-    told(are_values(w, s, &xs))
+fn is_converted<'a, F: FnOnce(&mut [f32]) -> Result<(), Refusal>>(
+    t: Tape<'a>,
+    convert: F,
+) -> Tape<'a>
+    requires { F.IsAlwaysCallable convert }
+{
+    let mut xs = [0.0; 8];
+    for (i, x) in xs.iter_mut().enumerate() {
+        *x = t.moved(i).value();
+    }
+    let converted = convert(&mut xs);
+    let s = t.moved(8);
+    let told = match converted {
+        Ok(()) => s.is_allowed(),
+        Err(r) => s.is_refusal(r),
+    };
+    told.are_values(&xs).told()
 }
 
 // ---- a record
-
-fn asked(
-    w: &[u32],
-    t: Tape,
-    g: Given,
-    look: Lookup,
-    cartesian: &[f32; 24],
-    left: &[u16; 8],
-    right: &[u16; 8],
-    neighbours: &[u16; 48],
-    responses: &[f32],
-    delays: &[f32],
-) -> Tape {
-    let s = queries(
-        w, t, g, look, cartesian, left, right, neighbours, responses, delays,
-    );
-    by_numbers(w, s, g, neighbours, responses, delays)
-}
 
 // The first left link as the tape has it, where it gives one.
 fn relink(link: u32, left: &mut [u16; 8]) {
@@ -574,24 +394,23 @@ fn relink(link: u32, left: &mut [u16; 8]) {
     }
 }
 
+// What is asked of a set: queries, and then numbers.
+fn follow<'a>(t: Tape<'a>, loaded: &Loaded) -> Tape<'a> {
+    let asked = each(t, |s| query(s, loaded));
+    each(asked, |s| by_number(s, loaded))
+}
+
 // A load and what follows from it.
-fn over_lists(
-    w: &[u32],
-    t: Tape,
-    g: Given,
-    positions: &[f32],
-    responses: &[f32],
-    delays: &[f32],
-) -> Tape {
+fn over_lists<'a>(t: Tape<'a>, g: Given, positions: &[f32], recorded: Recorded) -> Tape<'a> {
     let mut left = [7u16; 8];
     let mut right = [7u16; 8];
     let mut neighbours = [9u16; 48];
     let mut cartesian = [0.5f32; 24];
-    let a = loads::load(
+    let answer = loads::load(
         g.kind,
         g.sizes,
         positions,
-        responses,
+        recorded.responses,
         g.angle_step,
         g.radius_step,
         g.rate,
@@ -600,51 +419,45 @@ fn over_lists(
         &mut neighbours,
         &mut cartesian,
     );
-    let loaded = told(are_lists(
-        w,
-        is_loaded(w, t, a),
-        &left,
-        &right,
-        &neighbours,
-        &cartesian,
-    ));
-    relink(word(w, loaded.at), &mut left);
-    asked(
-        w,
-        moved(loaded, 1),
-        g,
-        look_of(a),
-        &cartesian,
-        &left,
-        &right,
-        &neighbours,
-        responses,
-        delays,
-    )
+    let lists = are_lists(is_loaded(t, answer), &left, &right, &neighbours, &cartesian).told();
+    relink(word(lists.words, lists.at), &mut left);
+    let set = Set {
+        recorded,
+        look: answer.unwrap_or(nothing()),
+        cartesian: &cartesian,
+        left: &left,
+        right: &right,
+    };
+    let loaded = Loaded {
+        set,
+        neighbours: &neighbours,
+    };
+    follow(lists.moved(1), &loaded)
 }
 
-fn rest(w: &[u32], t: Tape, delays: &[f32]) -> Tape {
-    is_converted(w, is_converted(w, is_longest(w, t, delays), 0), 1)
-}
-
-fn record(w: &[u32], t: Tape) -> Tape {
+fn record(w: &[u32], counts: Counts) -> Counts {
     let g = given_by(w);
     let taps = past(11, g.positions);
     let after = past(taps, g.responses);
     let positions = values(w, 11);
     let responses = values(w, taps);
     let delays = values(w, after);
-    let s = moved(t, past(after, g.delays));
-    let late = front(&delays, g.delays);
-    let u = over_lists(
-        w,
-        s,
-        g,
-        front(&positions, g.positions),
-        front(&responses, g.responses),
-        late,
-    );
-    rest(w, u, late)
+    let t = Tape {
+        words: w,
+        at: past(after, g.delays),
+        same: true,
+        counts,
+    };
+    let recorded = Recorded {
+        sizes: g.sizes,
+        responses: front(&responses, g.responses),
+        delays: front(&delays, g.delays),
+        rate: g.rate,
+    };
+    let asked = over_lists(t, g, front(&positions, g.positions), recorded);
+    let longest = is_longest(asked, recorded.delays);
+    let spherical = is_converted(longest, coords::convert_array_to_spherical);
+    is_converted(spherical, coords::convert_array_to_cartesian).counts
 }
 
 // ---- reading
@@ -654,35 +467,22 @@ fn read_word(bytes: &[u8], i: usize) -> u32 {
     if i < 1024 {
         let at = 9 * i;
         if at + 8 <= bytes.len() {
-            return match text::hex(&bytes[at..at + 8]) {
-                Num::Is(n) => n,
-                Num::Bad => 0,
-            };
+            return text::hex(&bytes[at..at + 8]).unwrap_or(0);
         }
     }
     0
 }
 
 fn words(bytes: &[u8]) -> [u32; 1024] {
-    let mut w = [0u32; 1024];
-    let mut i = 0;
-    while i < 1024 {
-        w[i] = read_word(bytes, i);
-        i += 1;
+    let mut w = [0; 1024];
+    for (i, x) in w.iter_mut().enumerate() {
+        *x = read_word(bytes, i);
     }
     w
 }
 
-fn begun(t: Tape) -> Tape {
-    Tape {
-        at: 0,
-        same: true,
-        answers: t.answers,
-        differ: t.differ,
-    }
-}
-
 // How many words the next record has, 0 at the end of the input.
+// 0, and no Option: a record says of itself how many words follow, and one of none ends the input, too.
 fn head() -> usize {
     let mut bytes = [0u8; 9];
     let n = io::read_full(0, &mut bytes);
@@ -692,48 +492,41 @@ fn head() -> usize {
     read_word(&bytes, 0) as usize
 }
 
-fn tell(t: Tape) {
-    io::print_decimal(1, t.answers);
+fn tell(counts: Counts) {
+    io::print_decimal(1, counts.answers);
     io::write_all(1, b" answers, ");
-    io::print_decimal(1, t.differ);
+    io::print_decimal(1, counts.differ);
     io::write_all(1, b" differ\n");
 }
 
 fn read_front(bytes: &mut [u8], n: usize) -> bool {
-    if bytes.len() < n {
-        return false;
-    }
-    io::read_full(0, &mut bytes[..n]) == n
+    bytes.len() >= n && io::read_full(0, &mut bytes[..n]) == n
 }
 
 // The next record, of n words; one that is too long or cut off is passed over.
-fn next_record(t: Tape, n: usize) -> Tape {
+fn next_record(counts: Counts, n: usize) -> Counts {
     if 1024 < n {
-        return t;
+        return counts;
     }
     let mut bytes = [0u8; 9216];
     if !read_front(&mut bytes, 9 * n) {
-        return t;
+        return counts;
     }
-    let w = words(front_bytes(&bytes, 9 * n));
-    record(front_words(&w, n), begun(t))
+    let w = words(front(&bytes, 9 * n));
+    record(front(&w, n), counts)
 }
 
 fn main() {
-    let mut t = Tape {
-        at: 0,
-        same: true,
+    let mut counts = Counts {
         answers: 0,
         differ: 0,
     };
-    let mut records: usize = 0;
-    while records < 10000 {
+    for _ in 0..10000_usize {
         let n = head();
         if n == 0 {
             break;
         }
-        t = next_record(t, n);
-        records += 1;
+        counts = next_record(counts, n);
     }
-    tell(t);
+    tell(counts);
 }

@@ -19,4 +19,4 @@ returns-in-2 c = cc
 
 pub returns-in_default : goal.returns-in_default
 unfolding of_bits
-returns-in_default c = c.times-in_default.ensures ∙ angle_last c.args.o c.args.j c.least-m-in_default.result c.in_default.in_default-own.rest.0.0.1 c.in_default.in_default-own.rest.0.1 c.in_default.in_default-own.rest.1 c.least-m-in_default.ensures
+returns-in_default c = c.times-in_default.ensures ∙ angle_last c.args.o c.args.j c.min-m-in_default.result c.in_default.in_default-own.rest.0.0.1 c.in_default.in_default-own.rest.0.1 c.in_default.in_default-own.rest.1 c.min-m-in_default.ensures

@@ -1,12 +1,10 @@
+use Rattle.std.proofs.Common.{arith}
+use Rattle.std.proofs.lemmas.Grind.{common_steps}
 use Rattle.coords.proofs.Triplets.{stays, changes}
 use Rattle.coords.proofs.convert_array.Goals as goal
 
-pub returns-in_default : goal.returns-in_default
-returns-in_default c =
-    let a = c.args in
-    stays a.kind a.values.now c.judge_values-v.result c.judge_values-v.ensures _ _ c.in_default.is
+pub returns-in_err-judge_values : goal.returns-in_err-judge_values
+returns-in_err-judge_values c = grind (arith, common_steps, stays)
 
 pub returns : goal.returns
-returns c =
-    let a = c.args in
-    changes a.kind a.values.now c.judge_values-v.result c.judge_values-v.ensures _ c.in-Fine.is c.convert_triplets.ensures
+returns c = grind (arith, common_steps, changes)

@@ -6,6 +6,7 @@ use Rattle.floats.proofs.Cross.{of_taken}
 use Rattle.floats.proofs.Preorder.{lt_trans_f}
 use Rattle.floats.proofs.Ceiling.{top, ceil_none, ceil_top, ceil_small, ceil_flat, ceil_more, ceil_large}
 use Rattle.floats.proofs.ceil.Goals as goal
+use Rattle.floats.proofs.ceil.Goals.{else-v-3-via-then-v-3+else-nearest_u32_to_f32-v, else-v-3-via-else-v-3}
 
 abbrev minus : Float
 minus = fin true 1 (pos 0)
@@ -38,18 +39,16 @@ returns-then-nearest_u32_to_f32-v c =
     let t = c.before.before.before in
     ceil_more t.args.v _ t.truncating_f32_to_u64-whole.ensures t.if-v.true c.if-v-3.true (ap (λ (x : Float). lt x t.args.v) (sym c.nearest_u32_to_f32.ensures) ∙ c.if-nearest_u32_to_f32-v.true)
 
-pub returns-else-nearest_u32_to_f32-v : goal.returns-else-nearest_u32_to_f32-v
+pub returns-then-v-2 : goal.returns-then-v-2
 unfolding of_bits
-returns-else-nearest_u32_to_f32-v c =
-    let t = c.before.before.before in
-    ceil_flat t.args.v _ t.truncating_f32_to_u64-whole.ensures t.if-v.true c.if-v-3.true (ap (λ (x : Float). lt x t.args.v) (sym c.nearest_u32_to_f32.ensures) ∙ c.if-nearest_u32_to_f32-v.false)
-
-pub returns-else-v-3 : goal.returns-else-v-3
-unfolding of_bits
-returns-else-v-3 c =
-    let t = c.before in
-    let v = t.args.v in
-    ceil_large v _ t.truncating_f32_to_u64-whole.ensures (subst T (sym t.well_formed.0.1) tt) t.if-v.true t.if-v-2.true c.if-v-3.false
+returns-then-v-2 c =
+    let v = c.args.v in
+    elim c.else-v-3.branch [
+      | else-v-3-via-then-v-3+else-nearest_u32_to_f32-v w ↦
+          ceil_flat v _ c.truncating_f32_to_u64-whole.ensures c.if-v.true w.if-v-3.true (ap (λ (x : Float). lt x v) (sym w.nearest_u32_to_f32.ensures) ∙ w.if-nearest_u32_to_f32-v.false)
+      | else-v-3-via-else-v-3 w ↦
+          ceil_large v _ c.truncating_f32_to_u64-whole.ensures (subst T (sym c.well_formed.0.1) tt) c.if-v.true c.if-v-2.true w.if-v-3.false
+    ]
 
 pub returns-then-v : goal.returns-then-v
 unfolding of_bits

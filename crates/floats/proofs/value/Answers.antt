@@ -1,5 +1,5 @@
 -- `floats::value` meets its contract. Assumes nothing.
-use Rattle.std.proofs.Common.{sym, refl}
+use Rattle.std.proofs.Common.{sym}
 use lib.Ieee.{of_bits, div}
 use Rattle.floats.proofs.Patterns.{pattern_nan, pattern_no_nan}
 use Rattle.floats.proofs.value.Goals as goal
@@ -10,6 +10,3 @@ returns-then-bits-gt2139095040 c = sym (pattern_nan c.args.bits c.if-bits-gt2139
 
 pub float_from_bits-result : goal.float_from_bits-result
 float_from_bits-result c = pattern_no_nan c.args.bits c.if-bits-gt2139095040.false
-
-pub returns : goal.returns
-returns c = refl

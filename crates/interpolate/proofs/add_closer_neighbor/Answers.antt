@@ -22,12 +22,12 @@ returns-in_default c =
 pub push-requires : goal.push-requires
 push-requires c = c.requires
 
-pub returns-then-d : goal.returns-then-d
+pub returns-then-near : goal.returns-then-near
 unfolding of_bits
-returns-then-d c =
+returns-then-near c =
     let a = c.args in
-    let e = c.in-At.is in (
-      c.push.ensures.0 ∙ ap (λ (l : List Share). list_of a.p ++ l) (sym (taken_yes _ _ a.best e c.if-d.true)),
+    let e = c.in-Some.is in (
+      c.push.ensures.0 ∙ ap (λ (l : List Share). list_of a.p ++ l) (sym (taken_yes _ a.best e c.if-near.true)),
       le_of_eq c.push.ensures.1,
       λ m g h. c.push.ensures.2 m g (subst (Held m) e h),
     )
@@ -35,4 +35,4 @@ returns-then-d c =
 pub returns : goal.returns
 returns c =
     let a = c.args in
-    (none_more a.p _ (taken_no _ _ a.best c.in-At.is c.if-d.false), le-add_right a.p.count 1, λ m g h. g)
+    (none_more a.p _ (taken_no _ a.best c.in-Some.is c.if-near.false), le-add_right a.p.count 1, λ m g h. g)

@@ -2,4 +2,4 @@ use Rattle.std.proofs.Common.{◌-◌}
 use Rattle.kdtree.proofs.+nearest_rec.Given as goal
 
 abbrev pub decreases-nearest_rec : goal.decreases-nearest_rec
-decreases-nearest_rec l = l.m - l.node
+decreases-nearest_rec l = l.tree.now.count - l.node

@@ -11,4 +11,4 @@ returns-then-dist-to_plane c =
     o.min_at.ensures z.requires.1 c.if-dist-to_plane.true
 
 pub returns : goal.returns
-returns c = by_box _ _ _ _ _ _ c.farther_box-far.ensures c.query_point.ensures c.dist_sq.ensures
+returns c = by_box _ _ _ _ _ _ c.farther_box-far.ensures c.from.ensures c.dist_sq.ensures

@@ -17,27 +17,19 @@ returns-then-count-eq0 c =
     let z = lists_of a.positions.now a.left.now a.right.now a.numbers.now in
     whole.nothing_in z a.count a.bounds a.q (sym c.long_enough.ensures ∙ c.if-not-long_enough.false) c.if-count-eq0.true
 
-pub nearest_place-searched-requires : goal.nearest_place-searched-requires
-nearest_place-searched-requires c =
-    let a = c.args in
-    let z = lists_of a.positions.now a.left.now a.right.now a.numbers.now in
-    let h = whole.readable_says z a.count (sym c.long_enough.ensures ∙ c.if-not-long_enough.false) in
-    let n = c.if-count-eq0.false in
-    (omega arith, (h.positions, h.left, h.right, h.most))
-
 pub returns-in_default : goal.returns-in_default
 returns-in_default c =
     let a = c.args in
     let z = lists_of a.positions.now a.left.now a.right.now a.numbers.now in
     let h = whole.readable_says z a.count (sym c.long_enough.ensures ∙ c.if-not-long_enough.false) in
-    whole.found_none z a.count a.bounds a.q h c.if-count-eq0.false c.nearest_place-searched.result c.nearest_place-searched.ensures c.in_default.is
+    whole.found_none z a.count a.bounds a.q h c.if-count-eq0.false c.nearest_place.result c.nearest_place.ensures c.in_default.is
 
 pub bounds-numbers-place : goal.bounds-numbers-place
 bounds-numbers-place c =
     let a = c.args in
     let z = lists_of a.positions.now a.left.now a.right.now a.numbers.now in
     let h = whole.readable_says z a.count (sym c.long_enough.ensures ∙ c.if-not-long_enough.false) in
-    let i = whole.found_in z a.count a.bounds a.q h c.if-count-eq0.false c.nearest_place-searched.result c.nearest_place-searched.ensures c.in-Found.best c.in-Found.is in
+    let i = whole.found_in z a.count a.bounds a.q h c.if-count-eq0.false c.nearest_place.result c.nearest_place.ensures c.in-Some.best c.in-Some.is in
     omega (arith, h.numbers, i)
 
 pub returns : goal.returns
@@ -45,4 +37,4 @@ returns c =
     let a = c.args in
     let z = lists_of a.positions.now a.left.now a.right.now a.numbers.now in
     let h = whole.readable_says z a.count (sym c.long_enough.ensures ∙ c.if-not-long_enough.false) in
-    whole.found_number z a.count a.bounds a.q h c.if-count-eq0.false c.nearest_place-searched.result c.nearest_place-searched.ensures c.in-Found.best c.in-Found.is
+    whole.found_number z a.count a.bounds a.q h c.if-count-eq0.false c.nearest_place.result c.nearest_place.ensures c.in-Some.best c.in-Some.is

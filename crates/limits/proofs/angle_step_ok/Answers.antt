@@ -1,8 +1,7 @@
-use mathlib.Core.Path.{refl}
-use lib.Ieee.{round, of_bits, neg}
-use Rattle.limits.specs.Allowed.{angle_step_ok, within, between}
+use lib.Ieee.{round, of_bits}
+use Rattle.limits.specs.Allowed.{angle_step_ok}
 use Rattle.limits.proofs.angle_step_ok.Goals as goal
 
 pub returns : goal.returns
-unfolding angle_step_ok within between round of_bits neg
-returns c = refl
+unfolding angle_step_ok round of_bits
+returns c = c.between.ensures

@@ -1,22 +1,8 @@
-use mathlib.Core.Path.{sym, ◌∙◌}
-use mathlib.Core.List.{[]}
-use Prim.Native.Nat.{◌-◌, ◌%◌}
-use mathlib.Core.List.{[]}
+use Rattle.std.proofs.Common.{ap, ◌∙◌, ◌∷◌, []}
 use native.Mathlib.Nat.{sub-le}
-use lib.ListN.{length}
-use Rattle.limits.proofs.Lines.{none}
-use Rattle.limits.proofs.Values.{value_bad, value_fine}
+use Rattle.limits.specs.Refusals.{Check, verdict_of}
+use Rattle.limits.proofs.Values.{value_front}
 use Rattle.limits.proofs.judge_values.Goals as goal
 
-pub first_bad-bad-requires : goal.first_bad-bad-requires
-first_bad-bad-requires c = sub-le _ _
-
-pub returns-then-bad-whole : goal.returns-then-bad-whole
-returns-then-bad-whole c =
-    let xs = c.args.values.now in
-    value_bad _ xs (length xs - length xs % 3) _ c.first_bad-bad.ensures [] c.if-bad-whole.true
-
 pub returns : goal.returns
-returns c =
-    let xs = c.args.values.now in
-    sym (value_fine _ xs (length xs - length xs % 3) _ c.first_bad-bad.ensures [] c.if-bad-whole.false ∙ none)
+returns c = c.judge_positions.ensures ∙ ap (λ (l : Check). verdict_of (l ∷ [])) (value_front _ c.args.values.now _ (sub-le _ _))

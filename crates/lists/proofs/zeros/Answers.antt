@@ -1,31 +1,21 @@
 -- `zeros` meets its contract: a turn of its loop makes the replaced part one longer. Assumes nothing.
-use Prim.Native.Nat.{◌<◌, ◌-◌}
-use mathlib.Core.Path.{◌≡◌, ap, ◌∙◌}
-use mathlib.Core.List.{List}
-use lib.Ieee.{Float, of_bits}
-use native.Mathlib.Omega.{arith}
-use lib.ListN.{length, set}
-use Rattle.lists.specs.Over.{over}
+use Rattle.std.proofs.Common.{◌<◌, refl, ap, ◌∙◌, List, length, take, slice_set, arith, Float}
+use lib.Ieee.{of_bits}
 use Rattle.floats.specs.Floats.{zero32}
-use Rattle.lists.proofs.Laws.{fill_more}
-use borrow.Author.Rules.{rules}
+use Rattle.lists.specs.Over.{over}
+use Rattle.lists.proofs.Laws.{fill_more, over_front}
 use Rattle.lists.proofs.zeros.Goals as goal
 
-pub loop-i-init : goal.loop-i-init
+pub loop-x-init : goal.loop-x-init
 unfolding over
-loop-i-init c = search rules
+loop-x-init c = refl
 
-pub loop-i-preserved : goal.loop-i-preserved
+pub loop-x-preserved : goal.loop-x-preserved
 unfolding of_bits
-loop-i-preserved c =
-    let i = c.loop-i.i in
-    let given = c.args.dst.now in
-    let h : i < length given = omega arith in (
-      search rules,
-      search rules,
-      search rules,
-      ap (λ (l : List Float). set l i zero32) c.loop-i.invariant.3 ∙ fill_more i zero32 given h,
-    )
+loop-x-preserved c =
+    let i = c.loop-x.x-index in
+    let h : i < length (take c.args.n c.args.dst.now) = omega arith in
+    ap (λ (l : List Float). slice_set l i zero32) c.loop-x.invariant ∙ fill_more i zero32 (take c.args.n c.args.dst.now) h
 
 pub returns : goal.returns
-returns c = let e : c.loop-i.i ≡ c.args.n = omega arith in cc
+returns c = over_front c.args.n c.loop-x.x-index zero32 c.args.dst.now c.loop-x.x-items c.loop-x.invariant c.requires (omega arith) (omega arith)

@@ -1,4 +1,5 @@
 -- `loads::write_cartesian` meets its contract. Assumes nothing.
+use Rattle.std.proofs.Common.{rules}
 use Rattle.loads.proofs.Ways.{as_given, turned_there}
 use Rattle.loads.proofs.write_cartesian.Goals as goal
 
@@ -10,4 +11,4 @@ returns-in-0 c =
 pub returns-in_default : goal.returns-in_default
 returns-in_default c =
     let a = c.args in
-    turned_there a.kind a.positions.now _ _ a.cartesian.now c.requires c.copy.ensures c.in_default.in_default-own.rest.1 c.convert_triplets.ensures
+    turned_there a.kind a.positions.now _ _ a.cartesian.now c.requires c.copy.ensures (search rules) c.convert_triplets.ensures

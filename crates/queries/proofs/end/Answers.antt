@@ -13,17 +13,17 @@ use Rattle.queries.specs.Program.{end_text}
 use Rattle.queries.proofs.end.Goals as goal
 
 pub form_error-requires : goal.form_error-requires
-form_error-requires c = omega (arith, error_room c.in-Cut.k)
+form_error-requires c = omega (arith, error_room c.in-Err.k)
 
-pub returns-in-Fine : goal.returns-in-Fine
-returns-in-Fine c =
+pub returns-in-Ok : goal.returns-in-Ok
+returns-in-Ok c =
     let a = c.args in
-    let e : end_text (end_of a.s a.rest.now) ≡ [] = ap end_text (sym c.at_end.ensures ∙ c.in-Fine.is) in
+    let e : end_text (end_of a.s a.rest.now) ≡ [] = ap end_text (sym c.at_end.ensures ∙ c.in-Ok.is) in
     (sym (ap length e), sym (ap (λ (t : List ℕ). over t a.out.now) e ∙ over_nil a.out.now))
 
-pub returns-in-Cut : goal.returns-in-Cut
-returns-in-Cut c =
+pub returns-in-Err : goal.returns-in-Err
+returns-in-Err c =
     let a = c.args in
-    let e : end_text (end_of a.s a.rest.now) ≡ form_error c.in-Cut.k = ap end_text (sym c.at_end.ensures ∙ c.in-Cut.is) in
+    let e : end_text (end_of a.s a.rest.now) ≡ form_error c.in-Err.k = ap end_text (sym c.at_end.ensures ∙ c.in-Err.is) in
     let w = c.form_error.ensures in
     (w.0 ∙ ap length (sym e), w.1 ∙ ap (λ (t : List ℕ). over t a.out.now) (sym e))

@@ -1,46 +1,13 @@
 -- `root::bisect` meets its contract. The invariant: √n lies between low and high, which have at most 24 digits. The measure is what lies between them. Assumes nothing.
-use Prim.Native.Nat.{ℕ, ◌+◌, ◌-◌, ◌*◌, ◌/◌, ◌^◌, ◌≤◌, ◌<◌}
+use Prim.Native.Nat.{ℕ, ◌+◌, ◌*◌, ◌/◌, ◌^◌, ◌≤◌, ◌<◌}
 use native.Mathlib.Omega.{arith}
 use Rattle.root.specs.Near.{Near}
 use Rattle.root.proofs.Square.{mul_lt, sq_suc, near_next}
 use mathlib.Core.Path.{◌≡◌, subst}
 use Rattle.root.proofs.bisect.Goals as goal
 
-pub loop-low-init : goal.loop-low-init
-loop-low-init c = omega arith
-
-pub overflow_add-low : goal.overflow_add-low
-overflow_add-low c = omega arith
-
-pub overflow_add-middle : goal.overflow_add-middle
-overflow_add-middle c = omega arith
-
 pub overflow_mul-middle : goal.overflow_mul-middle
 overflow_mul-middle c = let m : (c.loop-low.low + c.loop-low.high) / 2 < 2 ^ 24 = omega arith in let p = mul_lt 24 24 m m in omega arith
-
-pub loop-low-smaller-then-middle-n : goal.loop-low-smaller-then-middle-n
-loop-low-smaller-then-middle-n c = omega arith
-
-pub loop-low-preserved-then-middle-n : goal.loop-low-preserved-then-middle-n
-loop-low-preserved-then-middle-n c = omega arith
-
-pub loop-low-smaller : goal.loop-low-smaller
-loop-low-smaller c = omega arith
-
-pub loop-low-preserved : goal.loop-low-preserved
-loop-low-preserved c = omega arith
-
-pub overflow_mul-low : goal.overflow_mul-low
-overflow_mul-low c = omega arith
-
-pub overflow_add-low-2 : goal.overflow_add-low-2
-overflow_add-low-2 c = omega arith
-
-pub overflow_add-result : goal.overflow_add-result
-overflow_add-result c = omega arith
-
-pub returns-then-n-low : goal.returns-then-n-low
-returns-then-n-low c = omega arith
 
 -- after the loop high is low + 1
 next : (n low high : ℕ) → low < high → high ≤ low + 1 → n < high * high → low * low + low < n → Near n (low + 1)

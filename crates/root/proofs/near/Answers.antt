@@ -11,6 +11,3 @@ returns-then-d-s-2 c = near_at c.args.n c.guess-s.result (omega arith) (omega ar
 
 pub returns-then-d-s : goal.returns-then-d-s
 returns-then-d-s c = near_next c.args.n c.guess-s.result (omega arith) (omega arith)
-
-pub returns : goal.returns
-returns c = c.bisect.ensures

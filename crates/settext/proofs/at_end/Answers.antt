@@ -1,6 +1,5 @@
 -- `settext::at_end` meets its contract. Assumes nothing.
 use mathlib.Core.Bool.{◌||◌, not}
-use Rattle.settext.specs.declared.End.TheVariants.{Cut}
 use Prim.Native.Nat.{ℕ}
 use mathlib.Core.Path.{sym, ap, ◌∙◌}
 use lib.ListN.{length}
@@ -13,7 +12,7 @@ unfolding end_of
 returns-then-s-line_count c =
     let a = c.args in
     let e = ap (λ (n : ℕ). ltb a.s.lines n || not (eqb (length a.rest.now) 0)) (sym c.line_count.ensures) ∙ c.if-s-line_count.true in
-    rw e (ap Cut c.number.ensures)
+    rw e (rw c.number.ensures)
 
 pub returns : goal.returns
 unfolding end_of

@@ -6,14 +6,14 @@ use Rattle.settext.specs.declared.Step.TheVariants.{Next, Complete}
 use Rattle.settext.specs.State.{went_of, set_lines}
 use Rattle.settext.proofs.went.Goals as goal
 
-pub returns-then-k-line_count : goal.returns-then-k-line_count
+pub returns-then-lines-line_count : goal.returns-then-lines-line_count
 unfolding went_of
-returns-then-k-line_count c =
+returns-then-lines-line_count c =
     let s = c.args.s in
-    rw (eq-eqb _ _ (sym c.number-k.ensures ∙ c.if-k-line_count.true ∙ c.line_count.ensures)) (ap (λ (k : ℕ). Complete (set_lines s k)) c.number-k.ensures)
+    rw (eq-eqb _ _ (sym c.number-lines.ensures ∙ c.if-lines-line_count.true ∙ c.line_count.ensures)) (ap (λ (k : ℕ). Complete (set_lines s k)) c.number-lines.ensures)
 
-pub returns-else-k-line_count : goal.returns-else-k-line_count
+pub returns-else-lines-line_count : goal.returns-else-lines-line_count
 unfolding went_of
-returns-else-k-line_count c =
+returns-else-lines-line_count c =
     let s = c.args.s in
-    rw (ne_eqb _ _ (λ e. c.if-k-line_count.false (c.number-k.ensures ∙ e ∙ sym c.line_count.ensures))) (ap (λ (k : ℕ). Next (set_lines s k)) c.number-k.ensures)
+    rw (ne_eqb _ _ (λ e. c.if-lines-line_count.false (c.number-lines.ensures ∙ e ∙ sym c.line_count.ensures))) (ap (λ (k : ℕ). Next (set_lines s k)) c.number-lines.ensures)

@@ -1,16 +1,18 @@
 -- `sines::cos_of` meets its contract. Assumes nothing.
+use Rattle.std.proofs.Common.{lit≤}
 use lib.Ieee.{of_bits}
 use Rattle.sines.proofs.Range.{fix_asks}
-use Rattle.sines.proofs.Waves.{cosine_little, cosine_large}
+use Rattle.sines.proofs.Waves.{sized, cosine_little, cosine_large}
 use Rattle.sines.proofs.cos_of.Goals as goal
 
 pub returns-then-a : goal.returns-then-a
 unfolding of_bits
-returns-then-a c = cosine_little c.args.x c.size_of-a.result c.size_of-a.ensures c.if-a.true
+returns-then-a c = cosine_little c.args.x c.abs-a.result c.abs-a.ensures c.if-a.true
 
-pub cos_from-requires : goal.cos_from-requires
-cos_from-requires c = fix_asks c.args.x c.size_of-a.result c.requires c.size_of-a.ensures
+pub wave-requires : goal.wave-requires
+unfolding of_bits
+wave-requires c = let asked = fix_asks c.args.x c.abs-a.result c.requires (sized c.args.x c.abs-a.result c.abs-a.ensures c.if-a.false) in (asked.0, asked.1, lit≤ tt)
 
 pub returns : goal.returns
 unfolding of_bits
-returns c = cosine_large c.args.x c.size_of-a.result c.cos_from.result c.size_of-a.ensures c.if-a.false c.cos_from.ensures
+returns c = cosine_large c.args.x c.abs-a.result c.abs-a.ensures c.wave.result c.if-a.false c.wave.ensures

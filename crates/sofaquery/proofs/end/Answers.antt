@@ -2,5 +2,5 @@
 use Rattle.queries.proofs.Turns.{fits}
 use Rattle.sofaquery.proofs.end.Goals as goal
 
-pub write-ok-requires : goal.write-ok-requires
-write-ok-requires c = fits c.last-count.ensures
+pub write-wrote-requires : goal.write-wrote-requires
+write-wrote-requires g c = fits c.last-count.ensures

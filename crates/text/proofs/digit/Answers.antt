@@ -1,27 +1,19 @@
 -- `text::digit` meets its contract. Assumes nothing.
-use native.Mathlib.Omega.{arith}
-use lib.Dec.{leb}
-use borrow.Author.Tests.{leb-true}
-use Rattle.text.specs.Number.{digit_of}
-use Rattle.floats.proofs.Cross.{and_left}
+use Rattle.std.proofs.Common.{inl, inr, arith}
+use Rattle.text.proofs.Reading.{no_digit, as_digit}
 use Rattle.text.proofs.digit.Goals as goal
+use Rattle.text.proofs.digit.Goals.{in-48-to-57, in-97-to-102}
 
-pub overflow_sub-result : goal.overflow_sub-result
-overflow_sub-result c = leb-true 48 _ (and_left (leb 48 c.args.b) (leb c.args.b 57) c.if-w.true)
+pub returns-in_default : goal.returns-in_default
+returns-in_default c = no_digit c.args.base c.args.b c.requires (λ h g. omega arith) (λ h g. omega arith)
 
-pub returns-then-w : goal.returns-then-w
-unfolding digit_of
-returns-then-w c = rw c.if-w.true
+pub returns-in_default-2 : goal.returns-in_default-2
+returns-in_default-2 c = no_digit c.args.base c.args.b c.requires (λ h g. omega arith) (λ h g. omega arith)
 
-pub overflow_sub-result-then-w-2 : goal.overflow_sub-result-then-w-2
-overflow_sub-result-then-w-2 c =
-    let b = c.args.b in
-    omega (arith, leb-true 97 b (and_left (leb 97 b) (leb b 102) c.if-w-2.true))
-
-pub returns-then-w-2 : goal.returns-then-w-2
-unfolding digit_of
-returns-then-w-2 c = rw (c.if-w.false, c.if-w-2.true)
+pub returns-in_default-3 : goal.returns-in_default-3
+returns-in_default-3 c = no_digit c.args.base c.args.b c.requires (λ h g. omega arith) (λ h g. omega arith)
 
 pub returns : goal.returns
-unfolding digit_of
-returns c = rw (c.if-w.false, c.if-w-2.false)
+returns c =
+    let f = as_digit c.args.base c.args.b c.if-b-lt58.d c.then_some.result in
+    elim c.if-b-lt58.branch [ in-48-to-57 w ↦ f (inl (omega arith, omega arith, omega arith)) c.then_some.ensures | in-97-to-102 w ↦ f (inr (omega arith, omega arith, omega arith)) c.then_some.ensures ]

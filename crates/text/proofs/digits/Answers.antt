@@ -1,41 +1,27 @@
--- `text::digits` meets its contract. The loop's invariant: the value is at most the limit, and the digits from i on go on to what the whole does. Assumes nothing.
-use Prim.Native.Nat.{ℕ, ◌+◌, ◌*◌, ◌<◌}
-use mathlib.Core.Path.{◌≡◌, refl, sym, ap, ◌∙◌}
-use native.Mathlib.Omega.{arith}
-use mathlib.Core.List.{List}
-use lib.ListN.{length, get_or, drop}
-use Rattle.text.specs.Number.{digit_of, num_from, at_most}
+-- `text::digits` meets its contract. Assumes nothing.
+use Rattle.std.proofs.Common.{◌+◌, ◌*◌, sym, ap, ◌∙◌, drop, arith}
+use Rattle.text.specs.Number.{at_most}
 use Rattle.text.proofs.Reading.{too_many, under, num_on, num_bad, num_end}
-use borrow.Author.Rules.{rules}
 use Rattle.text.proofs.digits.Goals as goal
 
--- one digit on
-goes : (limit v i d : ℕ) (s : List ℕ) → i < length s → d ≡ digit_of (get_or s i 0) → d < 10 → at_most limit (num_from 10 v (drop i s)) ≡ at_most limit (num_from 10 (v * 10 + d) (drop (i + 1) s))
-goes limit v i d s h e k =
-    ap (at_most limit)
-    (num_on 10 v i s h (omega (arith, e)) ∙ sym (ap (λ (b : ℕ). num_from 10 (v * 10 + b) (drop (i + 1) s)) e))
-
-pub loop-i-init : goal.loop-i-init
-loop-i-init c = (search rules, refl, search rules, refl)
-
-pub returns-then-d-ge10 : goal.returns-then-d-ge10
+pub returns-in_err-d : goal.returns-in_err-d
 unfolding at_most
-returns-then-d-ge10 c =
+returns-in_err-d c =
     let a = c.args in
-    sym (ap (at_most a.limit) (num_bad 10 c.loop-i.v c.loop-i.i a.s.now (omega arith) (omega (arith, c.digit-d.ensures)))) ∙ c.loop-i.invariant.3
+    c.from_residual.ensures ∙ sym (ap (at_most a.limit) (num_bad 10 c.loop-b.v c.loop-b.b-index a.s.now (omega arith) c.in_err-d.ensures)) ∙ c.loop-b.invariant.2
 
-pub returns-then-most-w : goal.returns-then-most-w
-returns-then-most-w c =
+pub returns-then-most-v : goal.returns-then-most-v
+returns-then-most-v c =
     let a = c.args in
-    let w = c.loop-i.v * 10 + c.digit-d.result in
-    sym (goes a.limit c.loop-i.v c.loop-i.i c.digit-d.result a.s.now (omega arith) c.digit-d.ensures (omega arith) ∙ too_many a.limit w (drop (c.loop-i.i + 1) a.s.now) (omega arith)) ∙ c.loop-i.invariant.3
+    let w = c.loop-b.v * 10 + c.in_ok-d.d in
+    sym (ap (at_most a.limit) (num_on 10 c.loop-b.v c.loop-b.b-index c.in_ok-d.d a.s.now (omega arith) c.in_ok-d.ensures) ∙ too_many a.limit w (drop (c.loop-b.b-index + 1) a.s.now) (omega arith)) ∙ c.loop-b.invariant.2
 
-pub loop-i-preserved : goal.loop-i-preserved
-loop-i-preserved c =
+pub loop-b-preserved : goal.loop-b-preserved
+loop-b-preserved c =
     let a = c.args in
-    (omega arith, c.loop-i.invariant.1, omega arith, sym (goes a.limit c.loop-i.v c.loop-i.i c.digit-d.result a.s.now (omega arith) c.digit-d.ensures (omega arith)) ∙ c.loop-i.invariant.3)
+    (c.loop-b.invariant.0, omega arith, sym (ap (at_most a.limit) (num_on 10 c.loop-b.v c.loop-b.b-index c.in_ok-d.d a.s.now (omega arith) c.in_ok-d.ensures)) ∙ c.loop-b.invariant.2)
 
 pub returns : goal.returns
 returns c =
     let a = c.args in
-    sym (ap (at_most a.limit) (num_end 10 c.loop-i.v c.loop-i.i a.s.now (omega arith)) ∙ under a.limit c.loop-i.v c.loop-i.invariant.2) ∙ c.loop-i.invariant.3
+    sym (ap (at_most a.limit) (num_end 10 c.loop-b.v c.loop-b.b-index a.s.now (omega arith)) ∙ under a.limit c.loop-b.v c.loop-b.invariant.1) ∙ c.loop-b.invariant.2

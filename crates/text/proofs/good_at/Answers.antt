@@ -1,19 +1,19 @@
 -- `text::good_at` meets its contract. Assumes nothing.
-use mathlib.Core.Path.{sym}
-use Rattle.text.proofs.Reading.{eight, good_bad, good_last, good_on}
+use Rattle.std.proofs.Common.{sym, ◌∙◌, eq-eqb}
+use Rattle.text.proofs.Reading.{is_value, good_bad, good_last, good_on}
 use Rattle.text.proofs.good_at.Goals as goal
-
-pub returns-in_default : goal.returns-in_default
-returns-in_default c =
-    let a = c.args in
-    sym (good_bad a.s.now a.n a.k (eight a.s.now a.k c.hex-h.ensures c.in_default.is))
 
 pub returns-then-k-n : goal.returns-then-k-n
 returns-then-k-n c =
     let a = c.args in
-    sym (good_last a.s.now a.n a.k _ (eight a.s.now a.k c.hex-h.ensures c.in-Is.is) c.if-k-n.true)
+    eq-eqb _ _ c.if-k-n.true ∙ sym (good_last a.s.now a.n a.k (is_value a.s.now a.k _ _ c.hex.ensures c.is_some.ensures ∙ c.if-is_some.true) c.if-k-n.true)
 
-pub returns : goal.returns
-returns c =
+pub returns-else-k-n : goal.returns-else-k-n
+returns-else-k-n c =
     let a = c.args in
-    sym (good_on a.s.now a.n a.k _ (eight a.s.now a.k c.hex-h.ensures c.in-Is.is) c.if-k-n.false)
+    sym (good_on a.s.now a.n a.k (is_value a.s.now a.k _ _ c.hex.ensures c.is_some.ensures ∙ c.if-is_some.true) c.if-k-n.false)
+
+pub returns-else-is_some : goal.returns-else-is_some
+returns-else-is_some c =
+    let a = c.args in
+    c.if-is_some.false ∙ sym (good_bad a.s.now a.n a.k (is_value a.s.now a.k _ _ c.hex.ensures c.is_some.ensures ∙ c.if-is_some.false))

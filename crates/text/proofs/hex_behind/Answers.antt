@@ -1,22 +1,16 @@
 -- `text::hex_behind` meets its contract. Assumes nothing.
-use mathlib.Core.Path.{sym, ◌∙◌}
+use Rattle.std.proofs.Common.{◌∙◌}
 use Rattle.text.specs.Number.{hex_of}
-use Rattle.text.proofs.Reading.{begins_length}
 use Rattle.text.proofs.Keys.{has_key, no_key}
 use Rattle.text.proofs.hex_behind.Goals as goal
 
-pub slice_bounds-hex-count : goal.slice_bounds-hex-count
-slice_bounds-hex-count c = begins_length c.args.key.now c.args.line.now (sym c.begins_with.ensures ∙ c.if-begins_with.true)
-
-pub slice_bounds-hex-start : goal.slice_bounds-hex-start
-slice_bounds-hex-start c = begins_length c.args.key.now c.args.line.now (sym c.begins_with.ensures ∙ c.if-begins_with.true)
-
-pub returns-then-begins_with : goal.returns-then-begins_with
-returns-then-begins_with c =
+pub returns-in_err-strip_prefix : goal.returns-in_err-strip_prefix
+returns-in_err-strip_prefix c =
     let a = c.args in
-    has_key a.key.now a.line.now hex_of c.hex.result (sym c.begins_with.ensures ∙ c.if-begins_with.true) c.hex.ensures
+    c.from_residual.ensures ∙ no_key a.key.now a.line.now hex_of c.in_err-strip_prefix.ensures.cases
 
 pub returns : goal.returns
 returns c =
     let a = c.args in
-    no_key a.key.now a.line.now hex_of (sym c.begins_with.ensures ∙ c.if-begins_with.false)
+    let e = c.in_ok-strip_prefix.ensures.cases in
+    has_key a.key.now a.line.now _ hex_of c.hex.result e.0 e.1 c.hex.ensures

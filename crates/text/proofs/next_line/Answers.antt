@@ -8,21 +8,20 @@ use Rattle.lists.specs.Over.{over}
 use Rattle.lists.proofs.Laws.{over_own}
 use Rattle.text.specs.Lines.{Part, part_bytes, cut}
 use Rattle.text.proofs.Bytes.{cut_line, cut_on, cut_end, kept, rest_kept}
-use borrow.Author.Rules.{rules}
 use Rattle.text.proofs.next_line.Goals as goal
 
 pub loop-i-init : goal.loop-i-init
 loop-i-init c =
     let a = c.args in
-    (search rules, search rules, search rules, search rules, refl, over_own a.used a.buf.now c.requires.1)
+    (c.requires.1, refl, refl, over_own a.used a.buf.now c.requires.1)
 
 pub returns-then-b-eq10 : goal.returns-then-b-eq10
 returns-then-b-eq10 c =
     let a = c.args in
-    let e = sym (cut_line (take (length a.buf.now)) (take c.loop-i.u c.loop-i.buf) a.chunk.now c.loop-i.i (omega arith) c.if-b-eq10.true) ∙ c.loop-i.invariant.4 in
+    let e = sym (cut_line (take (length a.buf.now)) (take c.loop-i.u c.loop-i.buf) a.chunk.now c.loop-i.i (omega arith) c.if-b-eq10.true) ∙ c.loop-i.invariant.2 in
     record {
       same = e;
-      buffer = c.loop-i.invariant.5 ∙ ap (λ (p : Part). over (part_bytes p) a.buf.now) e;
+      buffer = c.loop-i.invariant.3 ∙ ap (λ (p : Part). over (part_bytes p) a.buf.now) e;
       within = (omega arith, omega arith, omega arith);
     }
 
@@ -34,7 +33,7 @@ held c =
     let k = c.keep-u in
     let b = get_or a.chunk.now c.loop-i.i 0 in
     ap (λ (n : ℕ). take n k.new.buf) k.ensures.0 ∙ ap (take (min (c.loop-i.u + 1) (length c.loop-i.buf))) k.ensures.1
-    ∙ kept c.loop-i.buf c.loop-i.u b (omega arith) ∙ ap (λ (n : ℕ). take n (take c.loop-i.u c.loop-i.buf ++ (b ∷ []))) c.loop-i.invariant.3
+    ∙ kept c.loop-i.buf c.loop-i.u b (omega arith) ∙ ap (λ (n : ℕ). take n (take c.loop-i.u c.loop-i.buf ++ (b ∷ []))) c.loop-i.invariant.1
 
 pub loop-i-preserved : goal.loop-i-preserved
 loop-i-preserved c =
@@ -43,12 +42,10 @@ loop-i-preserved c =
     let n = length a.buf.now in
     let b = get_or a.chunk.now c.loop-i.i 0 in
     let rest = drop (c.loop-i.i + 1) a.chunk.now in (
-      omega arith,
-      omega arith,
       omega (arith, k.ensures.0),
       omega (arith, k.auto.buf),
-      ap (λ (t : List ℕ). cut (take n) t rest) (held c) ∙ sym (cut_on (take n) (take c.loop-i.u c.loop-i.buf) a.chunk.now c.loop-i.i (omega arith) c.if-b-eq10.false) ∙ c.loop-i.invariant.4,
-      k.ensures.1 ∙ rest_kept a.buf.now c.loop-i.buf c.loop-i.u b (omega arith) c.loop-i.invariant.3 c.loop-i.invariant.5
+      ap (λ (t : List ℕ). cut (take n) t rest) (held c) ∙ sym (cut_on (take n) (take c.loop-i.u c.loop-i.buf) a.chunk.now c.loop-i.i (omega arith) c.if-b-eq10.false) ∙ c.loop-i.invariant.2,
+      k.ensures.1 ∙ rest_kept a.buf.now c.loop-i.buf c.loop-i.u b (omega arith) c.loop-i.invariant.1 c.loop-i.invariant.3
           ∙ ap (λ (t : List ℕ). over (take (min (c.loop-i.u + 1) (length c.loop-i.buf)) t) a.buf.now) (sym k.ensures.1)
           ∙ ap (λ (m : ℕ). over (take m k.new.buf) a.buf.now) (sym k.ensures.0),
     )
@@ -56,9 +53,9 @@ loop-i-preserved c =
 pub returns : goal.returns
 returns c =
     let a = c.args in
-    let e = sym (cut_end (take (length a.buf.now)) (take c.loop-i.u c.loop-i.buf) a.chunk.now c.loop-i.i (omega arith)) ∙ c.loop-i.invariant.4 in
+    let e = sym (cut_end (take (length a.buf.now)) (take c.loop-i.u c.loop-i.buf) a.chunk.now c.loop-i.i (omega arith)) ∙ c.loop-i.invariant.2 in
     record {
       same = e;
-      buffer = c.loop-i.invariant.5 ∙ ap (λ (p : Part). over (part_bytes p) a.buf.now) e;
+      buffer = c.loop-i.invariant.3 ∙ ap (λ (p : Part). over (part_bytes p) a.buf.now) e;
       within = omega arith;
     }

@@ -1,5 +1,5 @@
 -- `text::point` meets its contract. Assumes nothing.
-use mathlib.Core.Path.{◌≡◌, sym, ◌∙◌}
+use mathlib.Core.Path.{◌≡◌, sym}
 use native.Mathlib.Omega.{arith}
 use lib.Dec.{lit<}
 use Prim.Native.Nat.{ℕ, ◌≤◌}
@@ -16,20 +16,19 @@ use Rattle.text.proofs.point.Goals as goal
 long : (s : List ℕ) → values_ok s 3 ≡ true → 26 ≤ length s
 long s h = omega (arith, measured s 3 (lit< tt) h)
 
+pub returns-then-not-values_ok : goal.returns-then-not-values_ok
+unfolding point_read
+returns-then-not-values_ok c = rw (sym c.if-not-values_ok.ensures)
+
 pub value_at-requires : goal.value_at-requires
-value_at-requires c = omega (arith, long c.args.s.now (sym c.values_ok.ensures ∙ c.if-values_ok.true))
+value_at-requires c = omega (arith, long c.args.s.now (sym c.if-not-values_ok.ensures))
 
-pub value_at-requires-then-values_ok : goal.value_at-requires-then-values_ok
-value_at-requires-then-values_ok c = omega (arith, long c.args.s.now (sym c.values_ok.ensures ∙ c.if-values_ok.true))
+pub value_at-requires-2 : goal.value_at-requires-2
+value_at-requires-2 c = omega (arith, long c.args.s.now (sym c.if-not-values_ok.ensures))
 
-pub value_at-requires-then-values_ok-2 : goal.value_at-requires-then-values_ok-2
-value_at-requires-then-values_ok-2 c = omega (arith, long c.args.s.now (sym c.values_ok.ensures ∙ c.if-values_ok.true))
-
-pub returns-then-values_ok : goal.returns-then-values_ok
-returns-then-values_ok c =
-    point_in_lem c.args.s.now _ _ _ (sym c.values_ok.ensures ∙ c.if-values_ok.true)
-    c.value_at.ensures c.value_at-then-values_ok.ensures c.value_at-then-values_ok-2.ensures
+pub value_at-requires-3 : goal.value_at-requires-3
+value_at-requires-3 c = omega (arith, long c.args.s.now (sym c.if-not-values_ok.ensures))
 
 pub returns : goal.returns
-unfolding point_read
-returns c = rw (sym c.values_ok.ensures ∙ c.if-values_ok.false)
+returns c =
+    point_in_lem c.args.s.now _ _ _ (sym c.if-not-values_ok.ensures) c.value_at.ensures c.value_at-2.ensures c.value_at-3.ensures

@@ -1,6 +1,0 @@
-use Rattle.clearing.specs.Clearing.{holds}
-use Rattle.clearing.proofs.has_inside.Goals as goal
-
-pub returns : goal.returns
-unfolding holds
-returns c = cc

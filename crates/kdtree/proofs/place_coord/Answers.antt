@@ -1,6 +1,0 @@
-use Rattle.kdtree.proofs.Step.{at_axis}
-use native.Mathlib.Omega.{arith}
-use Rattle.kdtree.proofs.place_coord.Goals as goal
-
-pub returns : goal.returns
-returns c = at_axis _ _ _ (omega arith)

@@ -1,6 +1,0 @@
--- `sofa::set::sofa_filter_nointerp` meets its contract. Assumes nothing.
-use Rattle.sofa.proofs.Carried.{filter_across}
-use Rattle.sofa.proofs.set.sofa_filter_nointerp.Goals as goal
-
-pub returns : goal.returns
-returns c = filter_across c.filter_nointerp.result _ _ _ c.filtered.result c.filtered.ensures c.filter_nointerp.ensures

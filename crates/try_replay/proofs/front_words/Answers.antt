@@ -1,8 +1,0 @@
--- `try_replay::front_words` is safe. Assumes nothing.
-use mathlib.Core.Path.{sym}
-use native.Mathlib.Omega.{arith}
-use lib.Seq.{length-take-le}
-use Rattle.try_replay.proofs.front_words.Goals as goal
-
-pub slice_bounds-result-end : goal.slice_bounds-result-end
-slice_bounds-result-end c = sym (length-take-le c.args.n c.args.xs.now (omega arith))
