@@ -405,7 +405,7 @@ sofa_part sofa_right_response(sofa_sizes sizes, const float *responses, size_t r
  *
  * lists    neighbours: 6m
  * refused  2, 3, 8. Each entry is SOFA_ABSENT.
- * stack    128
+ * stack    192
  */
 sofa_neighbors sofa_neighbors_of(sofa_sizes sizes, const uint16_t *neighbours, size_t neighbours_count, size_t number);
 
