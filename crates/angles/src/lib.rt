@@ -79,6 +79,7 @@ fn rest_of(q: u64, x: u64) -> u64
 }
 
 // The angle, in units of 2^-24 and at most π / 4, whose tangent is nearest below t / 2^31.
+// Beside `root::bisect`, which halves until a gap closes: one of both would take a closure, and a law of each test.
 fn seek_from(t: u64) -> u64
     requires { t ≤ 4294967296 }
     ensures { result ≡ seek 24 t 0 13176795 }
@@ -365,6 +366,7 @@ impl Direction {
     }
 
     // By k mod 4, for the sine s and the cosine c of |r|.
+    // A quadrant is a number, opened by a match: document 01 has it so.
     fn on_turn(self, k: u64, down: bool, s: u64, c: u64) -> bool
         requires { (s ≤ 2147483648)
             × (c ≤ 2147483648) }

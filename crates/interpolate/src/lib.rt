@@ -37,6 +37,7 @@ pub struct Measurements<'r, 'd, 't> {
 }
 
 // An entry of the neighbour table as the blend meets it. One that is neither absent nor a measurement is bad.
+// Three named outcomes, and so no `Option`.
 #[derive(Clone, Copy)]
 pub enum Entry {
     Absent,
@@ -95,6 +96,7 @@ fn limit(best: Option<Near>) -> f32
 }
 
 // One point more. Places that are not counted hold measurements too, so that none is tested where places are read.
+// By a match on the count, since the four places are fields, as document 01 has them.
 fn push(p: Points, s: Share) -> Points
     requires { (1 ≤ p.count)
         × (p.count ≤ 3) }
@@ -227,6 +229,7 @@ pub fn plain_delay(delays: &[f32], k: usize, m: usize, r: usize, ear: Ear) -> Sa
 }
 
 // The delays of one to four points, weighed and added up.
+// Written out for each count, as `total`: the four places are fields.
 fn weighed(delays: &[f32], p: Points, s: Stride) -> f32
     requires { (1 ≤ p.count)
         × (p.count ≤ 4)

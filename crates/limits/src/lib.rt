@@ -145,6 +145,7 @@ fn between(low: f32, high: f32, x: f32) -> bool
 }
 
 // Whether a value may stand at an index of a list of positions.
+// A kind is a number, matched with all unknown values, as in `kind_ok`.
 pub fn position_ok(kind: u32, i: usize, x: f32) -> bool
     ensures { result ≡ position_ok kind i x }
 {

@@ -98,6 +98,7 @@ impl<'a> Responses<'a> {
     }
 
     // The first k samples of an ear's blend.
+    // The count chooses the size of one generic loop: the places are fields, so that it is no length of a list.
     fn head(&self, p: Points, ear: Ear, k: usize, out: &mut [f32])
         requires { Placed self.now.m p
             × (k ≤ self.now.n)

@@ -7,6 +7,7 @@ use settext::State;
 use text::Cut;
 
 // How far the program is.
+// Three named outcomes, and so neither an `Option` nor a `Result`.
 #[derive(Clone, Copy)]
 pub enum Phase {
     // The lines of the set are read.

@@ -30,6 +30,7 @@ pub struct State {
 }
 
 // What a line was: one of the set, the set's last, a query, or malformed with its number.
+// Four named outcomes, and so neither an `Option` nor a `Result`.
 #[derive(Clone, Copy)]
 pub enum Step {
     Next(State),

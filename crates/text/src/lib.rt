@@ -205,6 +205,7 @@ fn keep(buf: &mut [u8], used: usize, b: u8) -> usize
 }
 
 // The next line of the chunk from a place on, where `used` bytes of it are in the buffer already.
+// By index, since where the line ends is answered too.
 pub fn next_line(chunk: &[u8], from: usize, buf: &mut [u8], used: usize) -> Cut
     requires { (from ≤ length chunk.now)
         × (used ≤ length buf.old) }
