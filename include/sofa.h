@@ -248,7 +248,7 @@ sofa_refusal sofa_to_cartesian(float *values, size_t count);
  *          Nothing else is written.
  * refused  3: a list is shorter than that, or count is 16384 or more; 9: a bad link on the way down. All lists stay as they were, the
  *          answer's box is all +0.
- * stack    448, and 112 a level
+ * stack    384, and 112 a level
  */
 sofa_inserted sofa_tree_insert(
     size_t count, sofa_box box,

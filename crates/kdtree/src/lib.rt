@@ -501,18 +501,28 @@ fn goes_left(p: Point3, x: Point3, axis: u8) -> bool
 }
 
 // Strictly less than the node's coordinate goes left, otherwise right. It only reads: the writes follow.
-pub fn insert_rec(tree: &Tree, p: &Point3, node: usize, axis: u8) -> Slot
-    requires { node < tree.now.count }
-    ensures { (f : ℕ) → tree.now.count - node ≤ f
-        → result
-        ≡ slot_in p.now (subtree tree.now.left.now tree.now.right.now tree.now.positions.now tree.now.count f node) axis }
+// The parts of a tree one by one, and the point by value. Measured, behind one address each: a level reads the address of the list of
+// links after the side is known, an insert takes a fifth longer, and more stack than the header says of it.
+pub fn insert_rec(
+    positions: &[f32],
+    left: &[u16],
+    right: &[u16],
+    count: usize,
+    p: Point3,
+    node: usize,
+    axis: u8,
+) -> Slot
+    requires { (node < count)
+        × TreeHolds count positions.now left.now right.now }
+    ensures { (f : ℕ) → count - node ≤ f
+        → result ≡ slot_in p (subtree left.now right.now positions.now count f node) axis }
 {
-    let x = points::point_at(tree.positions, node);
-    let less = goes_left(*p, x, axis);
+    let x = points::point_at(positions, node);
+    let less = goes_left(p, x, axis);
     let next = next_axis(axis);
-    let l = tree.left[node];
-    let r = tree.right[node];
-    match link_of(tree.count, node, choose(less, l, r)) {
+    let l = left[node];
+    let r = right[node];
+    match link_of(count, node, choose(less, l, r)) {
         Link::Gone => {
             if less {
                 Slot::Left(node)
@@ -521,7 +531,7 @@ pub fn insert_rec(tree: &Tree, p: &Point3, node: usize, axis: u8) -> Slot
             }
         }
         Link::Bad => Slot::Blocked,
-        Link::To(n) => insert_rec(tree, p, n, next),
+        Link::To(n) => insert_rec(positions, left, right, count, p, n, next),
     }
 }
 
@@ -590,13 +600,7 @@ pub fn insert(
         write_node(positions, left, right, numbers, count, p, number);
         return Ok(BoundingBox::new(p));
     }
-    let tree = Tree {
-        count,
-        positions,
-        left,
-        right,
-    };
-    let slot = insert_rec(&tree, &p, 0, 0);
+    let slot = insert_rec(positions, left, right, count, p, 0, 0);
     if let Slot::Blocked = slot {
         return Err(Refusal::BadLink);
     }

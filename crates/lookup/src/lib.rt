@@ -48,7 +48,7 @@ const MAX: f32 = 340282346638528859811704183484516925440.0;
 // ---- building
 
 // Links the place n, whose point stands in the list, to the tree of the places before it.
-// Lists one by one while links are written: a `Tree` only lends them, so one is made for each place anew.
+// Lists one by one while links are written: a `Tree` only lends them.
 fn link_place(positions: &[f32], left: &mut [u16], right: &mut [u16], n: usize)
     requires { (0 < n)
         × (n < 16384)
@@ -58,13 +58,7 @@ fn link_place(positions: &[f32], left: &mut [u16], right: &mut [u16], n: usize)
     ensures { links_of left.new right.new ≡ owned_at positions.now n (links_of left.old right.old) }
 {
     let p = points::point_at(positions, n);
-    let tree = Tree {
-        count: n,
-        positions,
-        left,
-        right,
-    };
-    kdtree::insert_rec(&tree, &p, 0, 0).link(left, right, n);
+    kdtree::insert_rec(positions, left, right, n, p, 0, 0).link(left, right, n);
 }
 
 // Links the first m places in order.

@@ -19,7 +19,7 @@ use queries::{
     WorkLists,
 };
 use std::io;
-use std::io::{Read, Stdin, Stdout, Write};
+use std::io::{ErrorKind, Read, Stderr, Stdin, Stdout, Write};
 
 const CHUNK: usize = 65536;
 
@@ -99,15 +99,21 @@ fn after_write(run: Run, at: usize, have: usize, wrote: io::Result<()>) -> Went
     }
 }
 
-// Writes so many bytes at the front of out. Nothing to write goes well.
-fn write(output: &mut Stdout, out: &[u8], count: usize) -> io::Result<()>
+// Writes so many bytes at the front of out. Nothing to write goes well. Not `write_all`, which begins anew what a signal interrupted:
+// here such a write has failed, as such a read has.
+fn write(output: &mut impl Write, out: &[u8], count: usize) -> io::Result<()>
     requires { count ≤ length out.now }
     ensures { count ≡ 0 → IsOk result }
 {
-    if count == 0 {
-        return Ok(());
+    let mut rest = &out[..count];
+    while !rest.is_empty() {
+        let wrote = output.write(rest)?;
+        if wrote == 0 {
+            return Err(ErrorKind::WriteZero.into());
+        }
+        rest = &rest[wrote..];
     }
-    output.write_all(&out[..count])
+    Ok(())
 }
 
 // Chunk after chunk, turn by turn.
@@ -166,24 +172,24 @@ fn not_taken(run: Run, count: usize) -> bool
 
 // Says on standard error what failed, and where nothing did that the text was not taken: bin/sofaquery makes an exit status of it, since a
 // program of the language has none.
-fn tell(flow: Flow, bad: bool, rt: &impl Eprint) {
-    let said = match flow {
-        Flow::Ended if bad => "sofaquery: a form error, or a refused load",
+fn tell(flow: Flow, bad: bool, error: &mut Stderr) {
+    let said: &[u8] = match flow {
+        Flow::Ended if bad => b"sofaquery: a form error, or a refused load\n",
         Flow::Ended | Flow::More => return,
-        Flow::Unread => "sofaquery: standard input could not be read",
-        Flow::Unwritten => "sofaquery: standard output could not be written",
+        Flow::Unread => b"sofaquery: standard input could not be read\n",
+        Flow::Unwritten => b"sofaquery: standard output could not be written\n",
     };
     // There is nowhere to say that this failed.
-    let _ = eprintln!(rt; "{said}");
+    let _ = write(error, said, said.len());
 }
 
-fn end(went: Went, output: &mut Stdout, memory: &mut Memory, rt: &impl Eprint)
+fn end(went: Went, output: &mut Stdout, memory: &mut Memory, error: &mut Stderr)
     requires { Ends went memory.old }
 {
     let count = last(went, memory);
     let wrote = write(output, &memory.store.out, count);
     let bad = not_taken(went.run, count);
-    tell(end_flow(went.flow, wrote), bad, rt);
+    tell(end_flow(went.flow, wrote), bad, error);
 }
 
 fn main(rt: HostRuntime) {
@@ -212,5 +218,5 @@ fn main(rt: HostRuntime) {
         },
     };
     let went = run(&mut input, &mut output, &mut memory);
-    end(went, &mut output, &mut memory, &rt);
+    end(went, &mut output, &mut memory, &mut rt.stderr());
 }

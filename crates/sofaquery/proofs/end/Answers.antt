@@ -3,4 +3,4 @@ use Rattle.queries.proofs.Turns.{fits}
 use Rattle.sofaquery.proofs.end.Goals as goal
 
 pub write-wrote-requires : goal.write-wrote-requires
-write-wrote-requires g c = fits c.last-count.ensures
+write-wrote-requires c = fits c.last-count.ensures
