@@ -248,7 +248,7 @@ sofa_refusal sofa_to_cartesian(float *values, size_t count);
  *          Nothing else is written.
  * refused  3: a list is shorter than that, or count is 16384 or more; 9: a bad link on the way down. All lists stay as they were, the
  *          answer's box is all +0.
- * stack    384, and 112 a level
+ * stack    384, and 112 a level; on a 64-bit Arm 448, and 112 a level
  */
 sofa_inserted sofa_tree_insert(
     size_t count, sofa_box box,
@@ -405,7 +405,7 @@ sofa_part sofa_right_response(sofa_sizes sizes, const float *responses, size_t r
  *
  * lists    neighbours: 6m
  * refused  2, 3, 8. Each entry is SOFA_ABSENT.
- * stack    192
+ * stack    128; on a 64-bit Arm 192
  */
 sofa_neighbors sofa_neighbors_of(sofa_sizes sizes, const uint16_t *neighbours, size_t neighbours_count, size_t number);
 

@@ -10,7 +10,8 @@
 // Where the system fails to read or to write, nothing more is written, since the text then has no end to speak of, and one line on standard error says so.
 #![tactic(auto)]
 
-ghost use Rattle.std.specs.Prelude.{◌≤◌, ◌≡◌, length, IsOk};
+ghost use Rattle.std.specs.Prelude.{◌≤◌, ◌≡◌, length, take, IsOk, OnOk};
+ghost use Rattle.std.specs.Io.KnownBytes.{Appends};
 ghost use Rattle.queries.specs.Machine.{start_run, Front};
 ghost use Rattle.sofaquery.specs.Calls.{here, start_held, goes_on, read_flow, after_read, write_flow, after_write, last_text, end_flow, not_taken, Came, Ends};
 
@@ -101,9 +102,10 @@ fn after_write(run: Run, at: usize, have: usize, wrote: io::Result<()>) -> Went
 
 // Writes so many bytes at the front of out. Nothing to write goes well. Not `write_all`, which begins anew what a signal interrupted:
 // here such a write has failed, as such a read has.
-fn write(output: &mut impl Write, out: &[u8], count: usize) -> io::Result<()>
+fn write<W: Write>(output: &mut W, out: &[u8], count: usize) -> io::Result<()>
     requires { count ≤ length out.now }
-    ensures { count ≡ 0 → IsOk result }
+    ensures nothing { count ≡ 0 → IsOk result }
+    ensures bytes { OnOk result (Appends (W.contents output.old) (W.contents output.new) (take count out.now)) }
 {
     let mut rest = &out[..count];
     while !rest.is_empty() {

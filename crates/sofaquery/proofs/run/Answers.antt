@@ -38,7 +38,7 @@ loop-preserved c =
           let wrote = w.write-wrote in
           let e = w.went-is ∙ w.after_write-went.ensures in
           let place : Run → ListsHeld = λ r. here r told.new.memory in
-          rw (w.memory-is, w.chunk-is) (one_more, subst (λ (n : ℕ). n ≤ 65536) (sym (write_have _ _ _ _ _ e)) l.invariant.1, l.invariant.2, line_more _ _ fewer _ l.chunk _ _ room _ l.invariant.3 going w.if-at-have.true place _ _ (same_held told.ensures.place told.ensures.buffer told.ensures.ears told.ensures.printed.same) told.ensures.left refl wrote.result (λ n. wrote.ensures (told.ensures.printed.count ∙ ap length n)) _ e)
+          rw (w.memory-is, w.chunk-is) (one_more, subst (λ (n : ℕ). n ≤ 65536) (sym (write_have _ _ _ _ _ e)) l.invariant.1, l.invariant.2, line_more _ _ fewer _ l.chunk _ _ room _ l.invariant.3 going w.if-at-have.true place _ _ (same_held told.ensures.place told.ensures.buffer told.ensures.ears told.ensures.printed.same) told.ensures.left refl wrote.result (λ n. wrote.ensures.nothing (told.ensures.printed.count ∙ ap length n)) _ e)
       | else-at-have w ↦
           -- what this very call answered, and left in the chunk
           let got = w.read-got in
